@@ -1,0 +1,4 @@
+pub mod Choose
+pub mod Lists
+pub mod Bytes
+pub mod First

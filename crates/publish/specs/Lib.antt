@@ -1,0 +1,5 @@
+pub mod Outcomes
+pub mod Refusals
+pub mod Message
+pub mod Step
+pub mod All

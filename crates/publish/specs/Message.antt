@@ -1,0 +1,46 @@
+-- The message, byte by byte.
+use Prim.Native.Nat.{ℕ}
+use mathlib.Core.List.{List, [], _∷_, _++_}
+use Rattle.laws.specs.Bytes.{bytes}
+use Rattle.text.specs.Digits.{decimalOf, eightHex}
+use Rattle.request.specs.HeaderLines.{bareLine, wholeLine, valueOf}
+use Rattle.request.specs.To.{toValue}
+use Rattle.request.specs.Request.{Request, Via, From, To, Call-ID, CSeq, linesNamed}
+use Rattle.request.specs.declared.Line.{Line}
+use Rattle.request.specs.declared.ToValue.{ToValue}
+use Rattle.request.specs.declared.ToValue.the-variants.{Tagged, Untagged, Unclosed}
+use Rattle.publish.specs.Outcomes.{crlf, phraseOf, statusOf, ourField, fieldLines}
+use Rattle.publish.specs.declared.Outcome.{Outcome}
+
+-- status line: SIP/2.0, code and phrase, one space between
+unfoldable pub statusLine : ℕ → List ℕ
+statusLine code = bytes "SIP/2.0 " ++ (decimalOf code ++ (bytes " " ++ (phraseOf code ++ crlf)))
+
+-- lines copied as they came, in their order
+unfoldable pub copied : List ℕ → List Line → List ℕ
+copied s [] = []
+copied s (l ∷ ls) = wholeLine s l ++ copied s ls
+
+-- the To line as it came if it has a tag; otherwise with ";tag=" and eight hex digits of the number added before its CR LF
+unfoldable pub taggedLine : ToValue → List ℕ → ℕ → Line → List ℕ
+taggedLine Tagged s number l = wholeLine s l
+taggedLine Untagged s number l = bareLine s l ++ (bytes ";tag=" ++ (eightHex number ++ crlf))
+taggedLine Unclosed s number l = wholeLine s l
+
+unfoldable pub toLines : List ℕ → ℕ → List Line → List ℕ
+toLines s number [] = []
+toLines s number (l ∷ ls) = taggedLine (toValue (valueOf s l)) s number l ++ toLines s number ls
+
+-- all Via lines in their order, then From, To, Call-ID, CSeq
+unfoldable pub echoed : Request → ℕ → List ℕ
+echoed q number =
+    let s = q .text in
+    copied s (linesNamed Via q)
+    ++ (copied s (linesNamed From q)
+    ++ (toLines s number (linesNamed To q) ++ (copied s (linesNamed Call-ID q) ++ copied s (linesNamed CSeq q))))
+
+-- status line; the lines of the request; the fields; Content-Length: 0; an empty line
+unfoldable pub message : Request → ℕ → Outcome → List ℕ
+message q number o =
+    statusLine (statusOf o)
+    ++ (echoed q number ++ (fieldLines o ++ (ourField (bytes "Content-Length") (bytes "0") ++ crlf)))

@@ -1,0 +1,7 @@
+pub mod Packages
+pub mod Places
+pub mod Address
+pub mod Sound
+pub mod Store
+pub mod After
+pub mod All

@@ -1,0 +1,31 @@
+// One resource record: an address with its eight slots, and its 4,096 bytes of the store. The definitions stand in specs/.
+
+// A slot: package, tag, end clock, body length, and the success number that last set its body.
+pub struct Slot {
+    pub event: u8,
+    pub tag: u32,
+    pub end: u64,
+    pub length: u16,
+    pub number: u32,
+}
+
+// A record: in use or not, address, start, count of tags spent, clock of the latest success, map of occupied slots.
+pub struct Record {
+    pub used: bool,
+    pub address: [u8; 64],
+    pub start: u32,
+    pub spent: u32,
+    pub clock: u64,
+    pub map: u8,
+    pub slots: [Slot; 8],
+}
+
+// What a success does: its clock and package, the slot matched (8 where no tag was presented), the time granted,
+// and the length of the body given (0 where there is none).
+pub struct Success {
+    pub clock: u64,
+    pub event: u8,
+    pub slot: u8,
+    pub granted: u32,
+    pub length: u16,
+}

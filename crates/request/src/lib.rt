@@ -1,0 +1,39 @@
+// Reading a request: its first line, its header lines, the fields we read, and its body. The definitions stand in specs/.
+
+// The first line: where its method and its Request-URI end, and where the next line begins.
+pub enum FirstLine {
+    Read {
+        method: usize,
+        uri: usize,
+        next: usize,
+    },
+    Broken,
+}
+
+// A header line: where it starts, where its name ends, where its colon stands, and where its value ends.
+pub struct Line {
+    pub start: usize,
+    pub name: usize,
+    pub colon: usize,
+    pub end: usize,
+}
+
+// What stands where a header line is looked for.
+pub enum HeaderLine {
+    Header(Line),
+    NoHeader,
+}
+
+// Where a byte stands to quotes: outside, in them, or in them and covered by a backslash.
+pub enum Quote {
+    Outside,
+    Inside,
+    Covered,
+}
+
+// What a To value says of its tag.
+pub enum ToValue {
+    Tagged,
+    Untagged,
+    Unclosed,
+}

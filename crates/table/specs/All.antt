@@ -1,0 +1,17 @@
+-- One name that opens every definition of this floor and of the floors below, for statements proved by computation.
+use Prim.Native.Nat.{ℕ}
+use Rattle.text.specs.All.{all-text}
+use Rattle.tag.specs.All.{all-tag}
+use Rattle.request.specs.All.{all-request}
+use Rattle.record.specs.All.{all-record}
+use Rattle.publish.specs.All.{all-publish}
+use Rattle.table.specs.Table.{badSize, placeFor, isKnown, recordAt, withRecord}
+use Rattle.table.specs.Open.{openRefusals, emptied, opened}
+use Rattle.table.specs.Add.{lowestUnused, addRefusals, freshRecord, added}
+use Rattle.table.specs.Handle.{caseOf, tableAfter, doneWith, done}
+use Rattle.table.specs.Read.{askedRecord, readRefusals, storedBody, shownFor, stateOf, shownBytes}
+use Rattle.table.specs.Run.{openTable, addAll, lentBuffer, answerIn, withAnswer, sendAll, run}
+
+unfoldable pub all-table : ℕ
+unfolding all-text all-tag all-request all-record all-publish badSize placeFor isKnown recordAt withRecord openRefusals emptied opened lowestUnused addRefusals freshRecord added caseOf tableAfter doneWith done askedRecord readRefusals storedBody shownFor stateOf shownBytes openTable addAll lentBuffer answerIn withAnswer sendAll run
+all-table = 0

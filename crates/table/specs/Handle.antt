@@ -1,0 +1,62 @@
+-- Handling one request.
+use Prim.Native.Nat.{ℕ}
+use mathlib.Core.Bool.{Bool}
+use mathlib.Core.List.{List, _++_}
+use lib.ListN.{length, drop}
+use Rattle.laws.specs.Choose.{pick}
+use Rattle.request.specs.Request.{Request, requestOf}
+use Rattle.record.specs.Sound.{allSound}
+use Rattle.record.specs.Store.{partOf}
+use Rattle.publish.specs.Outcomes.{isSuccess}
+use Rattle.publish.specs.Refusals.{Case, outcomeOf}
+use Rattle.publish.specs.Step.{answerOf, ownAfter, partAfterwards}
+use Rattle.table.specs.Table.{Table, placeFor, isKnown, recordAt, withRecord}
+use Rattle.table.specs.declared.Handled.{Handled}
+
+-- one input: its clock, the 32-bit number for To that the caller supplies, and the request's bytes
+pub record Input : Type 0 where
+  pub clock : ℕ
+  pub number : ℕ
+  pub request : List ℕ
+
+-- what `handle` settles: its result, the table after it, and the answer buffer after it
+pub record Done : Type 0 where
+  pub handled : Handled
+  pub table : Table
+  pub buffer : List ℕ
+
+-- what a request is tried against, with the table and the answer buffer that are lent
+unfoldable pub caseOf : Table → List ℕ → Input → Case
+caseOf t buffer x =
+    let q = requestOf (x .request) in
+    record {
+      buffer = length buffer;
+      records = length (t .records);
+      store = length (t .store);
+      sound = allSound (t .records);
+      known = isKnown (q .uri) t;
+      own = recordAt t (placeFor (q .uri) t);
+      clock = x .clock;
+      request = q
+    }
+
+-- the table after a success: the address's own record and part, and no other
+unfoldable pub tableAfter : Table → Case → Table
+tableAfter t c =
+    let i = placeFor (c .request .uri) t in
+    withRecord t i (ownAfter c) (partAfterwards c (partOf i (t .store)))
+
+-- `handle` at a case: the message in front of the buffer and the bytes past it untouched; no success, no change of the table
+unfoldable pub doneWith : Table → List ℕ → ℕ → Case → Done
+doneWith t buffer number c =
+    let m = answerOf c number in
+    let after = tableAfter t c in
+    record {
+      handled = record { outcome = outcomeOf c; length = length m };
+      table = pick (isSuccess (outcomeOf c)) after t;
+      buffer = m ++ drop (length m) buffer
+    }
+
+-- `handle`
+unfoldable pub done : Table → List ℕ → Input → Done
+done t buffer x = doneWith t buffer (x .number) (caseOf t buffer x)

@@ -1,0 +1,21 @@
+// The lent records and store: opening, adding, handling a request, reading state. The definitions stand in specs/.
+use publish::Outcome;
+
+// What a handled request comes back with: its outcome, and the message's length (0 where there is none).
+pub struct Handled {
+    pub outcome: Outcome,
+    pub length: usize,
+}
+
+// What reading state shows: a part of the store, the whole default body, or the default's empty front.
+pub enum Shown {
+    Stored(usize, usize),
+    Default,
+    Front,
+}
+
+// What reading state comes back with.
+pub struct State {
+    pub result: u8,
+    pub shown: Shown,
+}

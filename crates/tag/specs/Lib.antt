@@ -1,0 +1,4 @@
+pub mod Tag
+pub mod Given
+pub mod Written
+pub mod All

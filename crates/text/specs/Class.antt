@@ -1,0 +1,41 @@
+-- The classes of bytes, by their rule.
+use Prim.Native.Nat.{ℕ}
+use mathlib.Core.Bool.{Bool, true, false, _&&_, _||_}
+use lib.Dec.{leb, eqb}
+use Rattle.laws.specs.Choose.{pick}
+use Rattle.laws.specs.Lists.{any}
+use Rattle.laws.specs.Bytes.{bytes}
+
+-- the number is one of a up to e
+abbrev pub from-to : ℕ → ℕ → ℕ → Bool
+from-to a e n = leb a n && leb n e
+
+-- a digit
+unfoldable pub isDigit : ℕ → Bool
+isDigit b = from-to 48 57 b
+
+-- a letter
+unfoldable pub isLetter : ℕ → Bool
+isLetter b = from-to 65 90 b || from-to 97 122 b
+
+-- a space or tab
+unfoldable pub isBlank : ℕ → Bool
+isBlank b = eqb b 32 || eqb b 9
+
+-- token bytes by RFC 3261: letters, digits and - . ! % * _ + ` ' ~
+unfoldable pub isToken : ℕ → Bool
+unfolding any
+isToken b = isLetter b || (isDigit b || any (eqb b) (bytes "-.!%*_+`'~"))
+
+-- value bytes are 9, 32 to 126, 128 to 255
+unfoldable pub isValue : ℕ → Bool
+isValue b = eqb b 9 || (from-to 32 126 b || from-to 128 255 b)
+
+-- bytes 33 to 126, of which Request-URIs and addresses are made
+unfoldable pub isVisible : ℕ → Bool
+isVisible b = from-to 33 126 b
+
+-- the class of a byte, numbered so that each question is one comparison:
+-- 0 none, 1 a value byte alone, 2 a blank, 3 a token byte that is no digit, 4 a digit
+unfoldable pub classOf : ℕ → ℕ
+classOf b = pick (isDigit b) 4 (pick (isToken b) 3 (pick (isBlank b) 2 (pick (isValue b) 1 0)))

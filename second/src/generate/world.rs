@@ -1,0 +1,123 @@
+//! The engine run alongside the generator, with what a generator must know of
+//! it: which addresses, tags and ends there are now, and which tags there were.
+
+use super::random::Random;
+use crate::bench::{Bench, Outcome};
+use crate::frames_in::read_frame;
+use crate::message::Answer;
+use crate::table::{record_of, Record, CLOCK_LIMIT, SLOTS};
+
+/// The address that is kept full of publications.
+pub const CROWD: &[u8] = b"sip:crowd@board.example";
+/// The address whose clock runs up to the limit.
+pub const LATE: &[u8] = b"sip:late@board.example;x=y";
+
+pub struct World {
+    pub bench: Bench,
+    /// Record and tag of each success so far.
+    pub given: Vec<(usize, u32)>,
+}
+
+impl World {
+    pub fn new() -> World {
+        World {
+            bench: Bench::new(),
+            given: Vec::new(),
+        }
+    }
+
+    /// Gives one input line to the engine and remembers the tag it gave.
+    pub fn run(&mut self, line: &[u8]) -> Outcome {
+        let spent: Vec<u32> = self.records().iter().map(|record| record.spent).collect();
+        let outcome = self.bench.run(&read_frame(line));
+        if let Outcome::Answered(written) = outcome {
+            if let Answer::Ok(success) = written.answer {
+                let changed = (0..spent.len()).find(|&r| self.record(r).spent != spent[r]);
+                self.given
+                    .extend(changed.iter().map(|&r| (r, success.tag)));
+            }
+        }
+        outcome
+    }
+
+    pub fn records(&self) -> &[Record] {
+        &self.bench.records
+    }
+
+    pub fn record(&self, r: usize) -> &Record {
+        &self.bench.records[r]
+    }
+
+    pub fn find(&self, address: &[u8]) -> Option<usize> {
+        record_of(self.records(), address)
+    }
+
+    /// The records in use that pass a test.
+    pub fn those(&self, test: impl Fn(&Record) -> bool) -> Vec<usize> {
+        (0..self.records().len())
+            .filter(|&r| self.record(r).in_use && test(self.record(r)))
+            .collect()
+    }
+
+    /// Any address but the crowd's.
+    pub fn ordinary(&self, random: &mut Random) -> Option<usize> {
+        random.pick_any(&self.those(|record| record.address() != CROWD))
+    }
+
+    /// An address, and a clock for it, at which an initial publication works.
+    pub fn with_room(&self, random: &mut Random) -> Option<(usize, u64)> {
+        let candidates = self.those(|record| record.address() != CROWD && record.spent < u32::MAX);
+        for _ in 0..8 {
+            let r = random.pick_any(&candidates)?;
+            let clock = self.clock_for(r, random);
+            if self.record(r).live(clock).count() < SLOTS {
+                return Some((r, clock));
+            }
+        }
+        None
+    }
+
+    /// A publication that is live at its address's latest clock.
+    pub fn live_slot(&self, random: &mut Random) -> Option<(usize, usize)> {
+        let mut found = Vec::new();
+        for r in self.those(|record| record.address() != CROWD && record.spent < u32::MAX) {
+            let record = self.record(r);
+            found.extend(record.live(record.latest).map(|(k, _)| (r, k)));
+        }
+        random.pick_any(&found)
+    }
+
+    /// A clock not below the latest: often near it, often near some end.
+    pub fn clock_for(&self, r: usize, random: &mut Random) -> u64 {
+        let record = self.record(r);
+        let ends: Vec<u64> = record.occupied().map(|(_, slot)| slot.end).collect();
+        let clock = match (random.below(10), random.pick_any(&ends)) {
+            (0, _) => record.latest,
+            (1 | 2, Some(end)) => end - 1 + random.below(3),
+            (3, _) => record.latest + random.below(700),
+            (4, _) => record.latest + random.below(8000),
+            _ => record.latest + random.below(40),
+        };
+        clock.max(record.latest).min(CLOCK_LIMIT)
+    }
+
+    /// A clock at which that publication is live, often the last one.
+    pub fn live_clock(&self, r: usize, k: usize, random: &mut Random) -> u64 {
+        let record = self.record(r);
+        let last = (record.slots[k].end - 1).min(CLOCK_LIMIT);
+        let span = last - record.latest;
+        match random.below(4) {
+            0 => last,
+            1 => record.latest,
+            2 => record.latest + random.below(span + 1),
+            _ => record.latest + random.below(span.min(30) + 1),
+        }
+    }
+
+    /// Whether that tag text names a live publication of that package.
+    pub fn is_live(&self, r: usize, package: usize, tag: &[u8], clock: u64) -> bool {
+        self.record(r)
+            .live(clock)
+            .any(|(_, slot)| slot.package == package && crate::tags::presents(tag, slot.tag))
+    }
+}

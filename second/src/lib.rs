@@ -1,0 +1,23 @@
+//! The publication part of the presence server, written from the paper alone.
+//! It is held against the proved definitions byte by byte.
+
+pub mod bench;
+pub mod counts;
+pub mod frames_in;
+pub mod frames_out;
+pub mod generate;
+pub mod handle;
+pub mod listing;
+pub mod message;
+pub mod packages;
+pub mod read_state;
+pub mod refusals;
+pub mod request;
+pub mod results;
+pub mod sound;
+pub mod success;
+pub mod table;
+pub mod tags;
+pub mod text;
+pub mod to_tag;
+pub mod witness;

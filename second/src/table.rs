@@ -1,0 +1,297 @@
+//! The records and their store: what a record holds, opening, adding, the map
+//! of occupied slots and where the bodies stand.
+
+use crate::results::*;
+use crate::sound::all_sound;
+use crate::text::are_visible;
+
+pub const MOST_RECORDS: usize = 16;
+pub const SLOTS: usize = 8;
+pub const ADDRESS_SIZE: usize = 64;
+pub const BODY_SIZE: usize = 512;
+/// The store bytes of one record.
+pub const PART_SIZE: usize = SLOTS * BODY_SIZE;
+pub const CLOCK_LIMIT: u64 = 1_000_000_000_000;
+
+#[derive(Clone, Copy, Debug, PartialEq, Eq)]
+pub struct Slot {
+    pub package: usize,
+    pub tag: u32,
+    pub end: u64,
+    pub body_length: usize,
+    /// The success number that last set the body.
+    pub body_number: u32,
+}
+
+impl Slot {
+    pub const ZERO: Slot = Slot {
+        package: 0,
+        tag: 0,
+        end: 0,
+        body_length: 0,
+        body_number: 0,
+    };
+
+    pub fn is_live(&self, clock: u64) -> bool {
+        clock < self.end
+    }
+}
+
+#[derive(Clone, Copy, Debug, PartialEq, Eq)]
+pub struct Record {
+    pub in_use: bool,
+    /// Ends at its first zero byte, if there is one.
+    pub address: [u8; ADDRESS_SIZE],
+    pub start: u32,
+    pub spent: u32,
+    /// The clock of the latest success.
+    pub latest: u64,
+    pub map: u8,
+    pub slots: [Slot; SLOTS],
+}
+
+impl Record {
+    pub const ZERO: Record = Record {
+        in_use: false,
+        address: [0; ADDRESS_SIZE],
+        start: 0,
+        spent: 0,
+        latest: 0,
+        map: 0,
+        slots: [Slot::ZERO; SLOTS],
+    };
+
+    pub fn address(&self) -> &[u8] {
+        let end = self.address.iter().position(|&byte| byte == 0);
+        &self.address[..end.unwrap_or(ADDRESS_SIZE)]
+    }
+
+    pub fn is_occupied(&self, slot: usize) -> bool {
+        self.map & (1 << slot) != 0
+    }
+
+    pub fn occupied(&self) -> impl Iterator<Item = (usize, &Slot)> + '_ {
+        self.slots
+            .iter()
+            .enumerate()
+            .filter(move |&(k, _)| self.is_occupied(k))
+    }
+
+    pub fn live(&self, clock: u64) -> impl Iterator<Item = (usize, &Slot)> + '_ {
+        self.occupied().filter(move |(_, slot)| slot.is_live(clock))
+    }
+
+    pub fn occupied_count(&self) -> u32 {
+        self.map.count_ones()
+    }
+
+    /// The lowest free slot; 8 where all are occupied.
+    pub fn lowest_free_slot(&self) -> usize {
+        (!self.map).trailing_zeros() as usize
+    }
+
+    pub fn take_slot(&mut self, k: usize, slot: Slot) {
+        self.map |= 1 << k;
+        self.slots[k] = slot;
+    }
+
+    pub fn free_slot(&mut self, k: usize) {
+        self.map &= !(1 << k);
+        self.slots[k] = Slot::ZERO;
+    }
+}
+
+/// Records 1 to 16, and exactly 4,096 store bytes for each.
+pub fn sizes_are_right(records: &[Record], store: &[u8]) -> bool {
+    (1..=MOST_RECORDS).contains(&records.len()) && store.len() == PART_SIZE * records.len()
+}
+
+/// The store bytes of record r.
+pub fn part(store: &[u8], r: usize) -> &[u8] {
+    &store[PART_SIZE * r..PART_SIZE * (r + 1)]
+}
+
+pub fn part_mut(store: &mut [u8], r: usize) -> &mut [u8] {
+    &mut store[PART_SIZE * r..PART_SIZE * (r + 1)]
+}
+
+/// The body of slot k of record r.
+pub fn body<'a>(records: &[Record], store: &'a [u8], r: usize, k: usize) -> &'a [u8] {
+    let place = BODY_SIZE * k;
+    &part(store, r)[place..place + records[r].slots[k].body_length]
+}
+
+pub fn is_well_formed(address: &[u8]) -> bool {
+    (1..=ADDRESS_SIZE).contains(&address.len()) && are_visible(address)
+}
+
+/// The record that has this address, compared byte by byte.
+pub fn record_of(records: &[Record], address: &[u8]) -> Option<usize> {
+    records
+        .iter()
+        .position(|record| record.in_use && record.address() == address)
+}
+
+/// Opening empties all records and zeroes the store.
+pub fn open(records: &mut [Record], store: &mut [u8]) -> u8 {
+    if !sizes_are_right(records, store) {
+        return WRONG_SIZES;
+    }
+    records.fill(Record::ZERO);
+    store.fill(0);
+    DONE
+}
+
+/// Adding writes the address to the lowest unused record.
+pub fn add(
+    records: &mut [Record],
+    store: &mut [u8],
+    start: u32,
+    spent: u32,
+    address: &[u8],
+) -> u8 {
+    if !sizes_are_right(records, store) {
+        return WRONG_SIZES;
+    }
+    if !all_sound(records) {
+        return NOT_SOUND;
+    }
+    if !is_well_formed(address) {
+        return ADDRESS_MALFORMED;
+    }
+    if record_of(records, address).is_some() {
+        return ADDRESS_THERE_ALREADY;
+    }
+    match records.iter().position(|record| !record.in_use) {
+        None => NO_UNUSED_RECORD,
+        Some(r) => {
+            records[r] = added(start, spent, address);
+            part_mut(store, r).fill(0);
+            DONE
+        }
+    }
+}
+
+fn added(start: u32, spent: u32, address: &[u8]) -> Record {
+    let mut record = Record {
+        in_use: true,
+        start,
+        spent,
+        ..Record::ZERO
+    };
+    record.address[..address.len()].copy_from_slice(address);
+    record
+}
+
+#[cfg(test)]
+mod tests {
+    use super::*;
+
+    fn opened(count: usize) -> (Vec<Record>, Vec<u8>) {
+        (vec![Record::ZERO; count], vec![0; PART_SIZE * count])
+    }
+
+    #[test]
+    fn opening_empties_everything() {
+        let (mut records, mut store) = opened(2);
+        records[1].spent = 7;
+        records[1].in_use = true;
+        records[1].latest = u64::MAX;
+        store[8191] = 1;
+        assert_eq!(open(&mut records, &mut store), DONE);
+        assert_eq!((records, store), opened(2));
+    }
+
+    #[test]
+    fn wrong_sizes_are_refused_and_left_alone() {
+        for (count, size) in [(0, 0), (17, 17 * 4096), (1, 4095), (1, 4097), (2, 4096)] {
+            let mut records = vec![Record::ZERO; count];
+            let mut store = vec![5; size];
+            assert_eq!(open(&mut records, &mut store), WRONG_SIZES);
+            assert_eq!(add(&mut records, &mut store, 0, 0, b""), WRONG_SIZES);
+            assert!(store.iter().all(|&byte| byte == 5));
+        }
+    }
+
+    #[test]
+    fn sizes_from_1_to_16_are_right() {
+        for count in 1..=16 {
+            let (mut records, mut store) = opened(count);
+            assert_eq!(open(&mut records, &mut store), DONE);
+        }
+    }
+
+    #[test]
+    fn adding_writes_the_lowest_unused_record() {
+        let (mut records, mut store) = opened(3);
+        store.fill(9);
+        records[0].map = 255;
+        records[0].latest = 5;
+        assert_eq!(add(&mut records, &mut store, 3, 4, b"ann"), DONE);
+        let ann = Record {
+            in_use: true,
+            start: 3,
+            spent: 4,
+            ..records[0]
+        };
+        assert_eq!(records[0], ann);
+        assert_eq!(records[0].address(), b"ann");
+        assert_eq!((records[0].map, records[0].latest), (0, 0));
+        assert!(store[..4096].iter().all(|&byte| byte == 0));
+        assert!(store[4096..].iter().all(|&byte| byte == 9));
+        assert_eq!(add(&mut records, &mut store, 0, 0, b"bo"), DONE);
+        assert_eq!(records[1].address(), b"bo");
+    }
+
+    #[test]
+    fn adding_is_refused_in_the_papers_order() {
+        let (mut records, mut store) = opened(1);
+        assert_eq!(add(&mut records, &mut store, 0, 0, b"ann"), DONE);
+        for address in [&b""[..], b"a b", b"a\x7f", b"\x80", &[b'a'; 65]] {
+            let result = add(&mut records, &mut store, 0, 0, address);
+            assert_eq!(result, ADDRESS_MALFORMED);
+        }
+        let again = add(&mut records, &mut store, 0, 0, b"ann");
+        assert_eq!(again, ADDRESS_THERE_ALREADY);
+        assert_eq!(
+            add(&mut records, &mut store, 0, 0, b"Ann"),
+            NO_UNUSED_RECORD
+        );
+        records[0].latest = CLOCK_LIMIT + 1;
+        assert_eq!(add(&mut records, &mut store, 0, 0, b""), NOT_SOUND);
+    }
+
+    #[test]
+    fn an_address_may_fill_its_64_bytes() {
+        let (mut records, mut store) = opened(1);
+        let address = [b'~'; 64];
+        assert_eq!(add(&mut records, &mut store, 0, 0, &address), DONE);
+        assert_eq!(records[0].address(), &address[..]);
+        assert_eq!(record_of(&records, &address), Some(0));
+        assert_eq!(record_of(&records, &address[..63]), None);
+    }
+
+    #[test]
+    fn the_map_says_which_slots_are_free() {
+        let mut record = Record::ZERO;
+        assert_eq!(record.lowest_free_slot(), 0);
+        record.map = 0b0000_1011;
+        assert_eq!(record.lowest_free_slot(), 2);
+        assert_eq!(record.occupied_count(), 3);
+        record.map = 255;
+        assert_eq!(record.lowest_free_slot(), 8);
+        record.free_slot(7);
+        assert_eq!(record.lowest_free_slot(), 7);
+    }
+
+    #[test]
+    fn a_publication_is_live_while_the_clock_is_below_its_end() {
+        let slot = Slot {
+            end: 100,
+            ..Slot::ZERO
+        };
+        assert!(slot.is_live(99));
+        assert!(!slot.is_live(100));
+        assert!(!slot.is_live(101));
+    }
+}

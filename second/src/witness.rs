@@ -1,0 +1,86 @@
+//! The witness listing: after each line of the bench listing, the message, the
+//! buffer past it, and every record in use with its slots and store.
+
+use std::io::{BufRead, Write};
+
+use crate::bench::{Bench, Outcome};
+use crate::listing::{digits_of, print_with, Trouble};
+use crate::table::{part, Record, Slot};
+use crate::text::hex;
+
+pub fn print_witness<R: BufRead, W: Write>(input: &mut R, output: &mut W) -> Result<(), Trouble> {
+    print_with(input, output, witness_lines)
+}
+
+pub fn witness_lines(bench: &Bench, outcome: &Outcome) -> String {
+    let (message, past) = bench.buffer.split_at(outcome.message_length());
+    let mut text = format!("  answer {}\n", message_text(message));
+    text.push_str(&format!("  past {}\n", checksum_text(past)));
+    for (r, record) in bench.records.iter().enumerate() {
+        if record.in_use {
+            text.push_str(&record_lines(r, record, part(&bench.store, r)));
+        }
+    }
+    text
+}
+
+fn message_text(message: &[u8]) -> String {
+    if message.is_empty() {
+        "-".to_string()
+    } else {
+        hex(message)
+    }
+}
+
+fn record_lines(r: usize, record: &Record, part: &[u8]) -> String {
+    let mut text = format!(
+        "  record {} {} {} {} {} {}\n",
+        r,
+        hex(record.address()),
+        digits_of(record.start),
+        record.spent,
+        record.latest,
+        hex(&[record.map])
+    );
+    for (k, slot) in record.occupied() {
+        text.push_str(&slot_line(r, k, slot));
+    }
+    text.push_str(&format!("  part {} {}\n", r, checksum_text(part)));
+    text
+}
+
+fn slot_line(r: usize, k: usize, slot: &Slot) -> String {
+    format!(
+        "  slot {} {} {} {} {} {} {}\n",
+        r,
+        k,
+        slot.package,
+        digits_of(slot.tag),
+        slot.end,
+        slot.body_length,
+        slot.body_number
+    )
+}
+
+fn checksum_text(bytes: &[u8]) -> String {
+    digits_of(checksum(bytes))
+}
+
+/// FNV-1a of 32 bits.
+pub fn checksum(bytes: &[u8]) -> u32 {
+    bytes.iter().fold(2166136261, |sum: u32, &byte| {
+        (sum ^ u32::from(byte)).wrapping_mul(16777619)
+    })
+}
+
+#[cfg(test)]
+mod tests {
+    use super::*;
+
+    #[test]
+    fn checksums_against_known_ones() {
+        assert_eq!(checksum_text(b""), "811c9dc5");
+        assert_eq!(checksum_text(b"a"), "e40c292c");
+        assert_eq!(checksum_text(b"foobar"), "bf9cf968");
+    }
+}
