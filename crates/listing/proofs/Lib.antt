@@ -1,1 +1,3 @@
 pub mod Eleven
+pub mod Examples
+pub mod Flow

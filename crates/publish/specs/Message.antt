@@ -5,7 +5,8 @@ use Rattle.laws.specs.Bytes.{bytes}
 use Rattle.text.specs.Digits.{decimalOf, eightHex}
 use Rattle.request.specs.HeaderLines.{bareLine, wholeLine, valueOf}
 use Rattle.request.specs.To.{toValue}
-use Rattle.request.specs.Request.{Request, Via, From, To, Call-ID, CSeq, linesNamed}
+use Rattle.request.specs.Names.{Via, From, To, Call-ID, CSeq}
+use Rattle.request.specs.Head.{linesOf, linesNamed}
 use Rattle.request.specs.declared.Line.{Line}
 use Rattle.request.specs.declared.ToValue.{ToValue}
 use Rattle.request.specs.declared.ToValue.the-variants.{Tagged, Untagged, Unclosed}
@@ -32,15 +33,14 @@ toLines s number [] = []
 toLines s number (l ∷ ls) = taggedLine (toValue (valueOf s l)) s number l ++ toLines s number ls
 
 -- all Via lines in their order, then From, To, Call-ID, CSeq
-unfoldable pub echoed : Request → ℕ → List ℕ
-echoed q number =
-    let s = q .text in
-    copied s (linesNamed Via q)
-    ++ (copied s (linesNamed From q)
-    ++ (toLines s number (linesNamed To q) ++ (copied s (linesNamed Call-ID q) ++ copied s (linesNamed CSeq q))))
+unfoldable pub echoed : List ℕ → List Line → ℕ → List ℕ
+echoed s ls number =
+    copied s (linesNamed Via s ls)
+    ++ (copied s (linesNamed From s ls)
+    ++ (toLines s number (linesNamed To s ls) ++ (copied s (linesNamed Call-ID s ls) ++ copied s (linesNamed CSeq s ls))))
 
 -- status line; the lines of the request; the fields; Content-Length: 0; an empty line
-unfoldable pub message : Request → ℕ → Outcome → List ℕ
-message q number o =
+unfoldable pub message : List ℕ → ℕ → Outcome → List ℕ
+message s number o =
     statusLine (statusOf o)
-    ++ (echoed q number ++ (fieldLines o ++ (ourField (bytes "Content-Length") (bytes "0") ++ crlf)))
+    ++ (echoed s (linesOf s) number ++ (fieldLines o ++ (ourField (bytes "Content-Length") (bytes "0") ++ crlf)))

@@ -3,7 +3,6 @@ use Prim.Native.Nat.{ℕ}
 use mathlib.Core.Bool.{Bool}
 use mathlib.Core.List.{List, []}
 use Rattle.laws.specs.Choose.{pick}
-use Rattle.request.specs.Request.{Request}
 use Rattle.request.specs.Fields.{hasMatch, body, bodyLength}
 use Rattle.record.specs.After.{recordAfter, partAfter}
 use Rattle.record.specs.declared.Record.{Record}
@@ -16,18 +15,19 @@ use Rattle.publish.specs.declared.Outcome.{Outcome}
 -- the success that a request is, where no refusal applies
 unfoldable pub successOf : Case → Success
 successOf c =
-    let q = c .request in
+    let s = c .text in
+    let h = c .head in
     record {
       clock = c .clock;
-      event = eventOf q;
-      slot = pick (hasMatch q) (presented c) 8;
-      granted = granted q;
-      length = bodyLength q
+      event = eventOf s h;
+      slot = pick (hasMatch h) (presented c) 8;
+      granted = granted s h;
+      length = bodyLength s h;
     }
 
 -- the message due: none where the outcome is silent
 unfoldable pub answerOf : Case → ℕ → List ℕ
-answerOf c number = let m = message (c .request) number (outcomeOf c) in pick (isSilent (outcomeOf c)) [] m
+answerOf c number = let m = message (c .text) number (outcomeOf c) in pick (isSilent (outcomeOf c)) [] m
 
 -- the address's record after the request: a refused call changes nothing
 unfoldable pub ownAfter : Case → Record
@@ -36,4 +36,4 @@ ownAfter c = let r = recordAfter (successOf c) (c .own) in pick (isSuccess (outc
 -- the address's part of the store after the request
 unfoldable pub partAfterwards : Case → List ℕ → List ℕ
 partAfterwards c bs =
-    let after = partAfter (successOf c) (c .own) (body (c .request)) bs in pick (isSuccess (outcomeOf c)) after bs
+    let after = partAfter (successOf c) (c .own) (body (c .text) (c .head)) bs in pick (isSuccess (outcomeOf c)) after bs

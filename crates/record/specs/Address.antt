@@ -1,12 +1,12 @@
 -- Addresses: which are well formed, how a record holds one, and when a text is that address.
 use Prim.Native.Nat.{ℕ, _-_}
-use mathlib.Core.Bool.{Bool, _&&_}
+use mathlib.Core.Bool.{Bool, _&&_, not}
 use mathlib.Core.List.{List, _++_}
 use lib.Dec.{eqb}
 use lib.ListN.{length, drop, replicate}
 use Rattle.laws.specs.Lists.{every, same}
 use Rattle.text.specs.Class.{isVisible, from-to}
-use Rattle.text.specs.Runs.{upTo}
+use Rattle.text.specs.Runs.{front}
 use Rattle.record.specs.declared.Record.{Record}
 
 -- an address is 1 to 64 bytes, each 33 to 126
@@ -15,7 +15,7 @@ isAddress a = from-to 1 64 (length a) && every isVisible a
 
 -- the address of a record: its bytes up to the first zero
 unfoldable pub addressOf : Record → List ℕ
-addressOf r = upTo (eqb 0) (r .address)
+addressOf r = front (λ b. not (eqb b 0)) (r .address)
 
 -- an address in its 64 bytes, zero past its end
 unfoldable pub padded : List ℕ → List ℕ

@@ -49,7 +49,7 @@ written x r old =
       tag = givenTag r;
       end = x .clock + x .granted;
       length = pick (hasBody x) (x .length) (old .length);
-      number = pick (hasBody x) (successNumber r) (old .number)
+      number = pick (hasBody x) (successNumber r) (old .number);
     }
 
 -- granted 0 leaves nothing live: a matched slot is freed, an initial one takes none
@@ -77,7 +77,7 @@ recordAfter x r =
       spent = successNumber r;
       clock = x .clock;
       map = mapOf (placesAfter x r);
-      slots = slotsOf (placesAfter x r)
+      slots = slotsOf (placesAfter x r);
     }
 
 -- the body given, put into its room

@@ -1,6 +1,7 @@
 pub mod FirstLine
 pub mod HeaderLines
+pub mod Names
 pub mod To
-pub mod Request
+pub mod Head
 pub mod Fields
 pub mod All

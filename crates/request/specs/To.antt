@@ -3,11 +3,12 @@ use Prim.Native.Nat.{ℕ}
 use mathlib.Core.Bool.{Bool, true, false, _&&_, _||_, not}
 use mathlib.Core.List.{List, [], _∷_}
 use lib.Dec.{eqb}
-use lib.ListN.{drop}
+use lib.ListN.{take, drop}
 use Rattle.laws.specs.Choose.{pick}
 use Rattle.laws.specs.Bytes.{bytes}
-use Rattle.laws.specs.Lists.{any}
-use Rattle.text.specs.Runs.{upTo, without, trim}
+use Rattle.laws.specs.Lists.{any, byteAt}
+use Rattle.text.specs.Class.{isBlank}
+use Rattle.text.specs.Runs.{without}
 use Rattle.text.specs.Names.{sameText}
 use Rattle.request.specs.declared.Quote.{Quote}
 use Rattle.request.specs.declared.Quote.the-variants.{Outside, Inside, Covered}
@@ -59,12 +60,14 @@ parameterText t = pick (has 60 t) (behindFirst 62 (behindFirst 60 t)) t
 
 -- a parameter that is named tag, in either case and blanks aside, before an equals sign
 unfoldable pub isTag : List ℕ → Bool
-isTag p = has 61 p && sameText (trim (upTo (eqb 61) p)) (bytes "tag")
+isTag p =
+    let name = without isBlank p in
+    sameText (take 3 name) (bytes "tag") && eqb (byteAt (without isBlank (drop 3 name)) 0) 61
 
--- one of the parameters is so named; a ; opens each, and runs to the next or the end
+-- one of the parameters is so named: a ; opens each
 unfoldable pub someTag : List ℕ → Bool
 someTag [] = false
-someTag (x ∷ xs) = let r = someTag xs in (eqb x 59 && isTag (upTo (eqb 59) xs)) || r
+someTag (x ∷ xs) = let r = someTag xs in (eqb x 59 && isTag xs) || r
 
 -- what a To value says of its tag; an unclosed quote or < is unreadable
 unfoldable pub toValue : List ℕ → ToValue

@@ -37,3 +37,19 @@ pub enum ToValue {
     Untagged,
     Unclosed,
 }
+
+// A name that we read: how often it stands (0, 1, or 2 for more than once), and its first line (all zero where there is none).
+pub struct Seen {
+    pub times: u8,
+    pub line: Line,
+}
+
+// What the first line and the header lines say: whether they are built as they must be, where the method and the
+// Request-URI end, where what follows the empty line begins, and the names seen.
+pub struct Head {
+    pub built: bool,
+    pub method: usize,
+    pub uri: usize,
+    pub rest: usize,
+    pub seen: [Seen; 10],
+}

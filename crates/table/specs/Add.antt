@@ -44,7 +44,7 @@ freshRecord e =
       spent = e .spent;
       clock = 0;
       map = 0;
-      slots = replicate 8 zeroSlot
+      slots = replicate 8 zeroSlot;
     }
 
 -- `add`: the lowest unused record and its 4,096 store bytes are written; every refusal leaves records and store untouched

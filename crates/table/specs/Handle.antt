@@ -4,7 +4,7 @@ use mathlib.Core.Bool.{Bool}
 use mathlib.Core.List.{List, _++_}
 use lib.ListN.{length, drop}
 use Rattle.laws.specs.Choose.{pick}
-use Rattle.request.specs.Request.{Request, requestOf}
+use Rattle.request.specs.Head.{headOf, uriOf}
 use Rattle.record.specs.Sound.{allSound}
 use Rattle.record.specs.Store.{partOf}
 use Rattle.publish.specs.Outcomes.{isSuccess}
@@ -28,22 +28,25 @@ pub record Done : Type 0 where
 -- what a request is tried against, with the table and the answer buffer that are lent
 unfoldable pub caseOf : Table → List ℕ → Input → Case
 caseOf t buffer x =
-    let q = requestOf (x .request) in
+    let s = x .request in
+    let h = headOf s in
+    let uri = uriOf s h in
     record {
       buffer = length buffer;
       records = length (t .records);
       store = length (t .store);
       sound = allSound (t .records);
-      known = isKnown (q .uri) t;
-      own = recordAt t (placeFor (q .uri) t);
+      known = isKnown uri t;
+      own = recordAt t (placeFor uri t);
       clock = x .clock;
-      request = q
+      text = s;
+      head = h;
     }
 
 -- the table after a success: the address's own record and part, and no other
 unfoldable pub tableAfter : Table → Case → Table
 tableAfter t c =
-    let i = placeFor (c .request .uri) t in
+    let i = placeFor (uriOf (c .text) (c .head)) t in
     withRecord t i (ownAfter c) (partAfterwards c (partOf i (t .store)))
 
 -- `handle` at a case: the message in front of the buffer and the bytes past it untouched; no success, no change of the table
@@ -54,7 +57,7 @@ doneWith t buffer number c =
     record {
       handled = record { outcome = outcomeOf c; length = length m };
       table = pick (isSuccess (outcomeOf c)) after t;
-      buffer = m ++ drop (length m) buffer
+      buffer = m ++ drop (length m) buffer;
     }
 
 -- `handle`

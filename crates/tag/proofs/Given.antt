@@ -37,15 +37,17 @@ given-agrees start spent tag hs hp ht = (decided, found)
   where
     k : ℕ
     k = numberOfTag start tag
+
     decided : SomeGives start spent tag → T (leb 1 k && leb k spent)
     decided g =
         let e : g .n ≡ k = number-only start tag (g .n) hs ht (omega arith) (g .gives) in
         both (leb 1 k) (leb k spent) (le→leb 1 k (omega arith)) (le→leb k spent (omega arith))
+
     found : T (leb 1 k && leb k spent) → SomeGives start spent tag
     found t =
         record {
           n = k;
           first = leb→le 1 k (both-left (leb 1 k) (leb k spent) t);
           last = leb→le k spent (both-right (leb 1 k) (leb k spent) t);
-          gives = number-gives start tag hs ht
+          gives = number-gives start tag hs ht;
         }

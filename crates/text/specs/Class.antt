@@ -1,6 +1,6 @@
 -- The classes of bytes, by their rule.
 use Prim.Native.Nat.{ℕ}
-use mathlib.Core.Bool.{Bool, true, false, _&&_, _||_}
+use mathlib.Core.Bool.{Bool, _&&_, _||_, not}
 use lib.Dec.{leb, eqb}
 use Rattle.laws.specs.Choose.{pick}
 use Rattle.laws.specs.Lists.{any}
@@ -34,6 +34,10 @@ isValue b = eqb b 9 || (from-to 32 126 b || from-to 128 255 b)
 -- bytes 33 to 126, of which Request-URIs and addresses are made
 unfoldable pub isVisible : ℕ → Bool
 isVisible b = from-to 33 126 b
+
+-- a byte that is no ; and no blank, as a value has up to its parameters
+unfoldable pub isPlain : ℕ → Bool
+isPlain b = not (eqb b 59 || isBlank b)
 
 -- the class of a byte, numbered so that each question is one comparison:
 -- 0 none, 1 a value byte alone, 2 a blank, 3 a token byte that is no digit, 4 a digit

@@ -3,7 +3,7 @@ use Prim.Native.Nat.{ℕ, suc, _+_}
 use mathlib.Core.Bool.{Bool, true, false, _&&_, not}
 use mathlib.Core.List.{List, [], _∷_}
 use lib.Dec.{eqb}
-use lib.ListN.{drop}
+use lib.ListN.{take, drop}
 use Rattle.laws.specs.Choose.{pick}
 use Rattle.laws.specs.Lists.{every, empty}
 use Rattle.text.specs.Class.{isBlank, isToken}
@@ -21,10 +21,9 @@ past f s i = i + run f (drop i s)
 unfoldable pub without : (ℕ → Bool) → List ℕ → List ℕ
 without f s = drop (run f s) s
 
--- the text up to the first byte of that kind
-unfoldable pub upTo : (ℕ → Bool) → List ℕ → List ℕ
-upTo f [] = []
-upTo f (x ∷ xs) = let r = x ∷ upTo f xs in pick (f x) [] r
+-- the bytes of that kind that the text begins with
+unfoldable pub front : (ℕ → Bool) → List ℕ → List ℕ
+front f s = take (run f s) s
 
 -- the text without the blanks at its end
 unfoldable pub trimEnd : List ℕ → List ℕ

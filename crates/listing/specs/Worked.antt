@@ -1,0 +1,35 @@
+-- What worked examples are stated with: a table where one address was added, and what comes back from it.
+use Prim.Native.Nat.{ℕ}
+use Prim.Native.String.{String}
+use mathlib.Core.List.{List, [], _∷_, map}
+use lib.ListN.{replicate}
+use Rattle.laws.specs.Bytes.{bytes}
+use Rattle.table.specs.Table.{Table}
+use Rattle.table.specs.Add.{Entry}
+use Rattle.table.specs.Handle.{Input, done}
+use Rattle.table.specs.Run.{Answer, Ran, openTable, addAll, lentBuffer, run}
+use Rattle.publish.specs.declared.Outcome.{Outcome}
+
+-- an address added with start 0, and so many tags spent
+unfoldable pub entry : String → ℕ → Entry
+entry address spent = record { address = bytes address; start = 0; spent = spent }
+
+-- a request at a clock, with To number 1
+unfoldable pub at : ℕ → List ℕ → Input
+at clock request = record { clock = clock; number = 1; request = request }
+
+-- two records, one of them for ann, who has spent so many tags
+unfoldable pub annTable : ℕ → Table
+annTable spent = addAll (entry "ann" spent ∷ []) (openTable 2)
+
+-- what comes back for an input from a table
+unfoldable pub back : Table → Input → Outcome
+back t x = done t lentBuffer x .handled .outcome
+
+-- what comes back for each of a list of inputs, in a run with one address
+unfoldable pub backs : String → List Input → List Outcome
+backs address xs = map (λ a. a .handled .outcome) (run 1 (entry address 0 ∷ []) xs .answers)
+
+-- the messages of a run with one address
+unfoldable pub messages : String → List Input → List (List ℕ)
+messages address xs = map (λ a. a .message) (run 1 (entry address 0 ∷ []) xs .answers)

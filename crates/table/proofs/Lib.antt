@@ -1,0 +1,3 @@
+pub mod Untouched
+pub mod OneRecord
+pub mod Sound
