@@ -1,10 +1,10 @@
 -- The laws of a part of a list, and of a list with a part put in: lengths, and what stands before, in and behind the part.
 use mathlib.Core.Path.{_≡_, sym, _∙_, ap}
-use mathlib.Core.List.{List, _++_, append-assoc}
+use mathlib.Core.List.{List, [], _++_, append-assoc}
 use Prim.Native.Nat.{ℕ, _+_, _-_, _<_, _≤_, min}
 use native.Mathlib.Omega.{arith}
-use lib.ListN.{length, getD, take, drop, length-append, length-take, length-drop, List·getD-append}
-use lib.Seq.{length-take-le, getD-take, getD-drop, getD-append-add, take-at, drop-at, ext-getD}
+use lib.ListN.{length, getD, take, drop, length-append, length-take, length-drop, List·getD-append, drop-of-length-le}
+use lib.Seq.{length-take-le, getD-take, getD-drop, getD-append-add, take-at, drop-at, take-all, take-nil, ext-getD}
 use Rattle.laws.specs.Lists.{part, putAt}
 
 -- a part is as long as its two ends say, or as what is there
@@ -86,3 +86,19 @@ module _ (s : List ℕ) (i : ℕ) (bs : List ℕ) (fits : i + length bs ≤ leng
   -- a part that begins behind it stays
   pub put-part-behind : (a e : ℕ) → i + length bs ≤ a → part (putAt s i bs) a e ≡ part s a e
   put-part-behind a e h = part-agrees (putAt s i bs) s a e put-length (λ p j k. put-behind p 0 (omega arith))
+
+-- a part that begins past the end is empty
+pub part-past : (s : List ℕ) (a e : ℕ) → length s ≤ a → part s a e ≡ []
+unfolding part
+part-past s a e h = rw (drop-of-length-le s h) (take-nil (e - a))
+
+-- a part that ends where it begins, or before, is empty
+pub part-none : (s : List ℕ) (a e : ℕ) → e ≤ a → part s a e ≡ []
+unfolding part
+part-none s a e h = let z : e - a ≡ 0 = omega arith in rw z
+
+-- a part that ends past the end is all that is left
+pub part-rest : (s : List ℕ) (a e : ℕ) → length s ≤ e → part s a e ≡ take (length s - a) (drop a s)
+unfolding part
+part-rest s a e h =
+    take-all (e - a) (drop a s) (omega (arith, length-drop a s)) ∙ sym (take-all (length s - a) (drop a s) (omega (arith, length-drop a s)))

@@ -3,7 +3,7 @@ use Prim.Native.Nat.{ℕ}
 use mathlib.Core.List.{List, [], _∷_, _++_}
 use Rattle.laws.specs.Bytes.{bytes}
 use Rattle.text.specs.Digits.{decimalOf, eightHex}
-use Rattle.request.specs.HeaderLines.{bareLine, wholeLine, valueOf}
+use Rattle.request.specs.HeaderLines.{bareLine, wholeLine, copied, valueOf}
 use Rattle.request.specs.To.{toValue}
 use Rattle.request.specs.Names.{Via, From, To, Call-ID, CSeq}
 use Rattle.request.specs.Head.{linesOf, linesNamed}
@@ -16,11 +16,6 @@ use Rattle.publish.specs.declared.Outcome.{Outcome}
 -- status line: SIP/2.0, code and phrase, one space between
 unfoldable pub statusLine : ℕ → List ℕ
 statusLine code = bytes "SIP/2.0 " ++ (decimalOf code ++ (bytes " " ++ (phraseOf code ++ crlf)))
-
--- lines copied as they came, in their order
-unfoldable pub copied : List ℕ → List Line → List ℕ
-copied s [] = []
-copied s (l ∷ ls) = wholeLine s l ++ copied s ls
 
 -- the To line as it came if it has a tag; otherwise with ";tag=" and eight hex digits of the number added before its CR LF
 unfoldable pub taggedLine : ToValue → List ℕ → ℕ → Line → List ℕ

@@ -10,7 +10,7 @@ use Rattle.text.specs.Class.{isDigit, isBlank, isPlain}
 use Rattle.text.specs.Runs.{past, front, isOneToken}
 use Rattle.text.specs.Number.{numberOf, isFit, valueOr}
 use Rattle.text.specs.Names.{sameText}
-use Rattle.text.specs.declared.Num.{Num}
+use Rattle.text.specs.declared.number.Num.{Num}
 use Rattle.request.specs.Names.{CSeq, Content-Length, Content-Type, Event, Expires, SIP-If-Match}
 use Rattle.request.specs.Head.{methodOf, absent, repeated, valueNamed}
 use Rattle.request.specs.declared.Head.{Head}

@@ -100,8 +100,10 @@ isClosed Tagged = true
 isClosed Untagged = true
 isClosed Unclosed = false
 
--- readable: built as above, Via at least once, From, To, Call-ID and CSeq exactly once, and no quote or < of To unclosed
+-- Via stands at least once, From, To, Call-ID and CSeq exactly once
+unfoldable pub standAsTheyMust : Head → Bool
+standAsTheyMust h = not (absent Via h) && (once From h && (once To h && (once Call-ID h && once CSeq h)))
+
+-- readable: built as above, the names stand as they must, and no quote or < of To is unclosed
 unfoldable pub isReadable : List ℕ → Head → Bool
-isReadable s h =
-    h .built && (not (absent Via h) && (once From h && (once To h && (once Call-ID h && (once CSeq h
-    && isClosed (toValue (valueNamed To s h)))))))
+isReadable s h = h .built && (standAsTheyMust h && isClosed (toValue (valueNamed To s h)))

@@ -1,7 +1,7 @@
 -- The header lines of a request and the empty line that ends them.
 use Prim.Native.Nat.{ℕ, zero, suc, _+_}
 use mathlib.Core.Bool.{Bool, _&&_}
-use mathlib.Core.List.{List, [], _∷_}
+use mathlib.Core.List.{List, [], _∷_, _++_}
 use lib.Dec.{eqb, ltb}
 use Rattle.laws.specs.Choose.{pick}
 use Rattle.laws.specs.Lists.{byteAt, part}
@@ -37,6 +37,11 @@ bareLine s l = part s (l .start) (l .end)
 -- a line as it came
 unfoldable pub wholeLine : List ℕ → Line → List ℕ
 wholeLine s l = part s (l .start) (l .end + 2)
+
+-- lines copied as they came, in their order
+unfoldable pub copied : List ℕ → List Line → List ℕ
+copied s [] = []
+copied s (l ∷ ls) = wholeLine s l ++ copied s ls
 
 -- the header lines, and where what follows the empty line begins; or that they cannot be read
 pub data Headers : Type 0 where

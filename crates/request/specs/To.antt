@@ -1,12 +1,12 @@
 -- Whether a To value has a tag.
-use Prim.Native.Nat.{ℕ}
+use Prim.Native.Nat.{ℕ, _+_}
 use mathlib.Core.Bool.{Bool, true, false, _&&_, _||_, not}
 use mathlib.Core.List.{List, [], _∷_}
-use lib.Dec.{eqb}
-use lib.ListN.{take, drop}
+use lib.Dec.{eqb, ltb}
+use lib.ListN.{length, take, drop}
 use Rattle.laws.specs.Choose.{pick}
 use Rattle.laws.specs.Bytes.{bytes}
-use Rattle.laws.specs.Lists.{any, byteAt}
+use Rattle.laws.specs.Lists.{placeOf, byteAt}
 use Rattle.text.specs.Class.{isBlank}
 use Rattle.text.specs.Runs.{without}
 use Rattle.text.specs.Names.{sameText}
@@ -42,13 +42,13 @@ unfoldable pub quotesClose : Quote → List ℕ → Bool
 quotesClose q [] = isOutside q
 quotesClose q (x ∷ xs) = quotesClose (nextQuote q x) xs
 
--- the text behind the first such byte; empty where there is none
-unfoldable pub behindFirst : ℕ → List ℕ → List ℕ
-behindFirst b s = drop 1 (without (λ x. not (eqb x b)) s)
-
 -- the text has such a byte
 unfoldable pub has : ℕ → List ℕ → Bool
-has b s = any (eqb b) s
+has b s = ltb (placeOf (eqb b) s) (length s)
+
+-- the text behind the first such byte; empty where there is none
+unfoldable pub behindFirst : ℕ → List ℕ → List ℕ
+behindFirst b s = drop (placeOf (eqb b) s + 1) s
 
 -- the first < is closed by a > that follows it, or there is none
 unfoldable pub angleCloses : List ℕ → Bool

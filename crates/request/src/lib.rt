@@ -1,4 +1,4 @@
-// Reading a request: its first line, its header lines, the fields we read, and its body. The definitions stand in specs/.
+// Reading a request: its first line, its header lines, the fields we read, and its body.
 
 // The first line: where its method and its Request-URI end, and where the next line begins.
 pub enum FirstLine {

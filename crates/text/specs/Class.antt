@@ -5,6 +5,8 @@ use lib.Dec.{leb, eqb}
 use Rattle.laws.specs.Choose.{pick}
 use Rattle.laws.specs.Lists.{any}
 use Rattle.laws.specs.Bytes.{bytes}
+use Rattle.text.specs.declared.class.Kind.{Kind}
+use Rattle.text.specs.declared.class.Kind.the-variants.{Token, Digit, Blank, Value, Visible, Plain}
 
 -- the number is one of a up to e
 abbrev pub from-to : ℕ → ℕ → ℕ → Bool
@@ -43,3 +45,12 @@ isPlain b = not (eqb b 59 || isBlank b)
 -- 0 none, 1 a value byte alone, 2 a blank, 3 a token byte that is no digit, 4 a digit
 unfoldable pub classOf : ℕ → ℕ
 classOf b = pick (isDigit b) 4 (pick (isToken b) 3 (pick (isBlank b) 2 (pick (isValue b) 1 0)))
+
+-- a byte is of a kind
+abbrev pub isKind : Kind → ℕ → Bool
+isKind Token = isToken
+isKind Digit = isDigit
+isKind Blank = isBlank
+isKind Value = isValue
+isKind Visible = isVisible
+isKind Plain = isPlain

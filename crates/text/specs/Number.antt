@@ -6,8 +6,8 @@ use lib.Dec.{leb}
 use Rattle.laws.specs.Choose.{pick}
 use Rattle.laws.specs.Lists.{every, empty}
 use Rattle.text.specs.Class.{isDigit}
-use Rattle.text.specs.declared.Num.{Num}
-use Rattle.text.specs.declared.Num.the-variants.{Value, Unfit}
+use Rattle.text.specs.declared.number.Num.{Num}
+use Rattle.text.specs.declared.number.Num.the-variants.{Value, Unfit}
 
 -- the text is digits: one or more, and nothing else
 unfoldable pub isDigits : List ℕ → Bool

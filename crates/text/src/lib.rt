@@ -1,7 +1,2 @@
-// Text as bytes: classes of bytes, runs, numbers, names and digits. The definitions stand in specs/.
-
-// What a run of decimal digits says: its value, or that it is no number within the bound.
-pub enum Num {
-    Value(u64),
-    Unfit,
-}
+pub mod class;
+pub mod number;
