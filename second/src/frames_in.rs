@@ -48,15 +48,15 @@ pub fn next_line<R: BufRead>(input: &mut R) -> io::Result<Option<Vec<u8>>> {
 }
 
 pub fn read_frame(line: &[u8]) -> Frame {
-    match frame_bytes(line) {
+    match bytes_of_digits(line, MOST_DIGITS) {
         Some(bytes) if bytes.len() >= LEAST_BYTES => built_frame(&bytes),
         _ => Frame::Bad,
     }
 }
 
-/// The bytes of an even number of digits, at most 8,210.
-fn frame_bytes(line: &[u8]) -> Option<Vec<u8>> {
-    if line.len() > MOST_DIGITS || line.len() % 2 != 0 {
+/// The bytes of an even number of digits, where there are not too many.
+pub fn bytes_of_digits(line: &[u8], at_most: usize) -> Option<Vec<u8>> {
+    if line.len() > at_most || line.len() % 2 != 0 {
         return None;
     }
     line.chunks(2)
@@ -91,7 +91,7 @@ fn built_frame(bytes: &[u8]) -> Frame {
     }
 }
 
-fn high_first(bytes: &[u8]) -> u64 {
+pub fn high_first(bytes: &[u8]) -> u64 {
     bytes
         .iter()
         .fold(0, |number, &byte| number << 8 | u64::from(byte))

@@ -1,39 +1,42 @@
 //! The command line of the second program.
 
+mod arguments;
+
 use std::env;
 use std::ffi::OsString;
-use std::io::{self, BufWriter, Write};
+use std::io::{self, BufRead, BufWriter, Write};
 use std::process::ExitCode;
 
+use arguments::{read_command, Command, Run};
 use second::counts::print_counts;
 use second::generate::print_frames;
+use second::generate::requests::print_requests;
+use second::generate::scripts::print_scripts;
 use second::listing::{print_listing, Trouble};
+use second::lives::print_lives;
+use second::read_counts::print_read_counts;
+use second::reads::print_reads;
 use second::witness::print_witness;
 
 const USAGE: &str = "\
 The second program: the publication part, written again from the paper.
 
-second listing < FRAMES                     print the bench listing
-second witness < FRAMES                     print the witness listing
-second frames --seed N --lines K            print K generated input lines
-second frames --seed N --lines K --counts   print how often those reach each row
-second help                                 print this text
+second listing < FRAMES                       print the bench listing
+second witness < FRAMES                       print the witness listing
+second reads < REQUESTS                       print the reads listing
+second lives < SCRIPT                         print the lives listing
+second frames --seed N --lines K              print K generated frames
+second frames --seed N --lines K --counts     print how often those reach each row
+second requests --seed N --lines K            print K generated requests
+second requests --seed N --lines K --counts   print how often those reach each outcome
+second scripts --seed N --lines K             print K generated lines of a script
+second help                                   print this text
 
-FRAMES is lines of hexadecimal, one frame a line. N is a number below 2^64;
-the same seed gives the same lines.
+FRAMES, REQUESTS and SCRIPT are lines of hexadecimal: one frame, one request or
+one step of a life a line. N is a number below 2^64; the same seed gives the
+same lines.
 Exit status: 0, or 1 where a stream fails, or 2 for a wrong command line.
 ";
-
-enum Command {
-    Help,
-    Listing,
-    Witness,
-    Frames {
-        seed: u64,
-        lines: u64,
-        counts: bool,
-    },
-}
 
 fn main() -> ExitCode {
     let arguments: Vec<OsString> = env::args_os().skip(1).collect();
@@ -46,76 +49,43 @@ fn main() -> ExitCode {
     }
 }
 
-fn read_command(arguments: &[OsString]) -> Result<Command, String> {
-    let (first, rest) = arguments.split_first().ok_or("no command given")?;
-    match first.to_str() {
-        Some("frames") => read_frames_options(rest),
-        Some("help") => alone(rest, Command::Help),
-        Some("listing") => alone(rest, Command::Listing),
-        Some("witness") => alone(rest, Command::Witness),
-        _ => Err(format!("unknown command {:?}", first)),
-    }
-}
-
-fn alone(rest: &[OsString], command: Command) -> Result<Command, String> {
-    match rest.first() {
-        None => Ok(command),
-        Some(extra) => Err(format!("unexpected argument {:?}", extra)),
-    }
-}
-
-fn read_frames_options(rest: &[OsString]) -> Result<Command, String> {
-    let (mut seed, mut lines, mut counts) = (None, None, false);
-    let mut left = rest.iter();
-    while let Some(option) = left.next() {
-        match option.to_str() {
-            Some("--seed") if seed.is_none() => seed = Some(read_number("--seed", left.next())?),
-            Some("--lines") if lines.is_none() => {
-                lines = Some(read_number("--lines", left.next())?)
-            }
-            Some("--counts") if !counts => counts = true,
-            Some("--seed" | "--lines" | "--counts") => {
-                return Err(format!("{:?} given twice", option))
-            }
-            _ => return Err(format!("unknown option {:?}", option)),
-        }
-    }
-    Ok(Command::Frames {
-        seed: seed.ok_or("frames needs --seed N")?,
-        lines: lines.ok_or("frames needs --lines K")?,
-        counts,
-    })
-}
-
-fn read_number(option: &str, value: Option<&OsString>) -> Result<u64, String> {
-    let value = value.ok_or_else(|| format!("{} needs a number", option))?;
-    value
-        .to_str()
-        .filter(|text| text.bytes().all(|byte| byte.is_ascii_digit()))
-        .and_then(|text| text.parse().ok())
-        .ok_or_else(|| format!("{} needs a number below 2^64, not {:?}", option, value))
-}
-
 fn run(command: &Command) -> Result<(), Trouble> {
     let mut input = io::stdin().lock();
     let mut output = BufWriter::new(io::stdout().lock());
-    let done = match *command {
-        Command::Help => output.write_all(USAGE.as_bytes()).map_err(Trouble::Output),
-        Command::Listing => print_listing(&mut input, &mut output),
-        Command::Witness => print_witness(&mut input, &mut output),
-        Command::Frames {
-            seed,
-            lines,
-            counts: false,
-        } => print_frames(seed, lines, &mut output).map_err(Trouble::Output),
-        Command::Frames {
-            seed,
-            lines,
-            counts: true,
-        } => print_counts(seed, lines, &mut output).map_err(Trouble::Output),
-    };
+    let done = print(command, &mut input, &mut output);
     let flushed = output.flush().map_err(Trouble::Output);
     done.and(flushed)
+}
+
+fn print<R: BufRead, W: Write>(
+    command: &Command,
+    input: &mut R,
+    output: &mut W,
+) -> Result<(), Trouble> {
+    let written = match command {
+        Command::Listing => return print_listing(input, output),
+        Command::Witness => return print_witness(input, output),
+        Command::Reads => return print_reads(input, output),
+        Command::Lives => return print_lives(input, output),
+        Command::Help => output.write_all(USAGE.as_bytes()),
+        Command::Frames(run) => print_run(run, output, print_frames, print_counts),
+        Command::Requests(run) => print_run(run, output, print_requests, print_read_counts),
+        Command::Scripts(run) => print_scripts(run.seed, run.lines, output),
+    };
+    written.map_err(Trouble::Output)
+}
+
+type Printer<W> = fn(u64, u64, &mut W) -> io::Result<()>;
+
+/// The lines, or only their counts.
+fn print_run<W: Write>(
+    run: &Run,
+    output: &mut W,
+    lines: Printer<W>,
+    counts: Printer<W>,
+) -> io::Result<()> {
+    let printer = if run.counts { counts } else { lines };
+    printer(run.seed, run.lines, output)
 }
 
 fn exit_after(done: Result<(), Trouble>) -> ExitCode {

@@ -45,9 +45,14 @@ fn publication(
     if clock < records[r].latest {
         return Err(CLOCK_BELOW_LATEST);
     }
-    Ok(records[r]
+    Ok(shown_slot(&records[r], package, clock).map(|k| (r, k)))
+}
+
+/// The slot of that package's live publication with the highest body number.
+pub fn shown_slot(record: &Record, package: usize, clock: u64) -> Option<usize> {
+    record
         .live(clock)
         .filter(|(_, slot)| slot.package == package)
         .max_by_key(|(_, slot)| slot.body_number)
-        .map(|(k, _)| (r, k)))
+        .map(|(k, _)| k)
 }

@@ -3,7 +3,7 @@
 
 use crate::packages;
 use crate::request::{Name, Request};
-use crate::table::{record_of, Record, BODY_SIZE, SLOTS};
+use crate::table::{record_of, Record, BODY_SIZE};
 use crate::tags::presents;
 use crate::text::*;
 
@@ -105,9 +105,7 @@ fn method_is_publish(request: &Request) -> Result<(), Refusal> {
 }
 
 /// The first 400; gives the body and the Expires number.
-fn fields_are_well_formed<'a>(
-    request: &Request<'a>,
-) -> Result<(&'a [u8], Option<u32>), Refusal> {
+fn fields_are_well_formed<'a>(request: &Request<'a>) -> Result<(&'a [u8], Option<u32>), Refusal> {
     cseq_is_well_formed(request)?;
     let content_length = content_length(request)?;
     let expires = expires(request)?;
@@ -117,7 +115,7 @@ fn fields_are_well_formed<'a>(
 }
 
 /// Digits, blanks, the method.
-fn cseq_is_well_formed(request: &Request) -> Result<(), Refusal> {
+pub fn cseq_is_well_formed(request: &Request) -> Result<(), Refusal> {
     let value = request.value(Name::Cseq).unwrap_or(b"");
     let (digits, rest) = value.split_at(front_of(value, DIGIT));
     let (blanks, method) = rest.split_at(front_of(rest, BLANK));
@@ -128,7 +126,7 @@ fn cseq_is_well_formed(request: &Request) -> Result<(), Refusal> {
     )
 }
 
-fn content_length(request: &Request) -> Result<Option<usize>, Refusal> {
+pub fn content_length(request: &Request) -> Result<Option<usize>, Refusal> {
     once_at_most(request, Name::ContentLength, Refusal::LengthRepeated)?;
     let there = request.rest.len() as u64;
     match request.value(Name::ContentLength) {
@@ -141,7 +139,7 @@ fn content_length(request: &Request) -> Result<Option<usize>, Refusal> {
     }
 }
 
-fn expires(request: &Request) -> Result<Option<u32>, Refusal> {
+pub fn expires(request: &Request) -> Result<Option<u32>, Refusal> {
     once_at_most(request, Name::Expires, Refusal::ExpiresRepeated)?;
     match request.value(Name::Expires) {
         None => Ok(None),
@@ -165,12 +163,12 @@ fn package_is_listed(request: &Request) -> Result<usize, Refusal> {
 }
 
 /// The first 500
-fn clock_is_not_behind(record: &Record, clock: u64) -> Result<(), Refusal> {
+pub fn clock_is_not_behind(record: &Record, clock: u64) -> Result<(), Refusal> {
     accept_if(clock >= record.latest, Refusal::ClockBelowLatest)
 }
 
 /// The second 400; gives the tag presented, if one is.
-fn match_is_one_token<'a>(request: &Request<'a>) -> Result<Option<&'a [u8]>, Refusal> {
+pub fn match_is_one_token<'a>(request: &Request<'a>) -> Result<Option<&'a [u8]>, Refusal> {
     once_at_most(request, Name::SipIfMatch, Refusal::MatchRepeated)?;
     match request.value(Name::SipIfMatch) {
         Some(value) if !is_token(value) => Err(Refusal::MatchNotOneToken),
@@ -179,7 +177,7 @@ fn match_is_one_token<'a>(request: &Request<'a>) -> Result<Option<&'a [u8]>, Ref
 }
 
 /// 412
-fn matched_slot(
+pub fn matched_slot(
     record: &Record,
     package: usize,
     presented: Option<&[u8]>,
@@ -225,7 +223,7 @@ fn content_type_is_right(request: &Request, package: usize, body: &[u8]) -> Resu
 }
 
 /// The third 400
-fn something_is_given(body: &[u8], matched: Option<usize>) -> Result<(), Refusal> {
+pub fn something_is_given(body: &[u8], matched: Option<usize>) -> Result<(), Refusal> {
     accept_if(
         !body.is_empty() || matched.is_some(),
         Refusal::NeitherBodyNorMatch,
@@ -233,7 +231,7 @@ fn something_is_given(body: &[u8], matched: Option<usize>) -> Result<(), Refusal
 }
 
 /// The second 500
-fn a_tag_is_left(record: &Record) -> Result<(), Refusal> {
+pub fn a_tag_is_left(record: &Record) -> Result<(), Refusal> {
     accept_if(record.spent < u32::MAX, Refusal::AllTagsSpent)
 }
 
@@ -245,13 +243,10 @@ fn there_is_room(
     granted: u32,
 ) -> Result<(), Refusal> {
     let needs_room = matched.is_none() && granted > 0;
-    let least_end = record.live(clock).map(|(_, slot)| slot.end).min();
-    match least_end {
-        Some(end) if needs_room && record.live(clock).count() == SLOTS => {
-            Err(Refusal::EightLive {
-                retry_after: end - clock,
-            })
-        }
+    match record.least_end_of_eight(clock) {
+        Some(end) if needs_room => Err(Refusal::EightLive {
+            retry_after: end - clock,
+        }),
         _ => Ok(()),
     }
 }

@@ -111,6 +111,15 @@ impl<'a> Request<'a> {
 
 /// Everything that leads to result 6 is found here.
 pub fn read_request(bytes: &[u8]) -> Result<Request<'_>, Unreadable> {
+    let request = read_any_request(bytes)?;
+    if request.method == b"ACK" {
+        return Err(Unreadable::Ack);
+    }
+    Ok(request)
+}
+
+/// The same, the method ACK aside.
+pub fn read_any_request(bytes: &[u8]) -> Result<Request<'_>, Unreadable> {
     let (first, rest) = take_line(bytes).ok_or(Unreadable::FirstLine)?;
     let (method, uri) = read_first_line(first).ok_or(Unreadable::FirstLine)?;
     let (lines, rest) = read_header_lines(rest)?;
@@ -122,9 +131,6 @@ pub fn read_request(bytes: &[u8]) -> Result<Request<'_>, Unreadable> {
         Some(to) => has_tag(to.value)?,
         None => false,
     };
-    if method == b"ACK" {
-        return Err(Unreadable::Ack);
-    }
     Ok(Request {
         method,
         uri,
@@ -352,10 +358,7 @@ mod tests {
 
     #[test]
     fn the_method_ack_gets_no_answer() {
-        assert_eq!(
-            with_first_line("ACK ann SIP/2.0\r\n"),
-            Err(Unreadable::Ack)
-        );
+        assert_eq!(with_first_line("ACK ann SIP/2.0\r\n"), Err(Unreadable::Ack));
         assert!(with_first_line("Ack ann SIP/2.0\r\n").is_ok());
     }
 

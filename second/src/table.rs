@@ -81,6 +81,12 @@ impl Record {
         self.occupied().filter(move |(_, slot)| slot.is_live(clock))
     }
 
+    /// The least end among them, where eight are live.
+    pub fn least_end_of_eight(&self, clock: u64) -> Option<u64> {
+        let least = self.live(clock).map(|(_, slot)| slot.end).min();
+        least.filter(|_| self.live(clock).count() == SLOTS)
+    }
+
     pub fn occupied_count(&self) -> u32 {
         self.map.count_ones()
     }
@@ -143,13 +149,7 @@ pub fn open(records: &mut [Record], store: &mut [u8]) -> u8 {
 }
 
 /// Adding writes the address to the lowest unused record.
-pub fn add(
-    records: &mut [Record],
-    store: &mut [u8],
-    start: u32,
-    spent: u32,
-    address: &[u8],
-) -> u8 {
+pub fn add(records: &mut [Record], store: &mut [u8], start: u32, spent: u32, address: &[u8]) -> u8 {
     if !sizes_are_right(records, store) {
         return WRONG_SIZES;
     }

@@ -145,6 +145,15 @@ pub fn hex(bytes: &[u8]) -> String {
     text
 }
 
+/// Bytes as lowercase hexadecimal text, or - where there are none.
+pub fn hex_or_dash(bytes: &[u8]) -> String {
+    if bytes.is_empty() {
+        "-".to_string()
+    } else {
+        hex(bytes)
+    }
+}
+
 #[cfg(test)]
 mod tests {
     use super::*;
@@ -209,10 +218,7 @@ mod tests {
             Number::Value(9)
         );
         assert_eq!(number(b"10", 9), Number::TooLarge);
-        assert_eq!(
-            number(b"4294967295", 4294967295),
-            Number::Value(4294967295)
-        );
+        assert_eq!(number(b"4294967295", 4294967295), Number::Value(4294967295));
         assert_eq!(number(b"4294967296", 4294967295), Number::TooLarge);
         assert_eq!(
             number(b"18446744073709551617", 4294967295),
@@ -234,5 +240,7 @@ mod tests {
         assert_eq!(&eight_hex_digits(0x9e37_79b9), b"9e3779b9");
         assert_eq!(&eight_hex_digits(u32::MAX), b"ffffffff");
         assert_eq!(hex(b"\x00\x0a\xf9"), "000af9");
+        assert_eq!(hex_or_dash(b"\x00"), "00");
+        assert_eq!(hex_or_dash(b""), "-");
     }
 }

@@ -6,7 +6,7 @@ use std::io::{BufRead, Write};
 use crate::bench::{Bench, Outcome};
 use crate::listing::{digits_of, print_with, Trouble};
 use crate::table::{part, Record, Slot};
-use crate::text::hex;
+use crate::text::{hex, hex_or_dash};
 
 pub fn print_witness<R: BufRead, W: Write>(input: &mut R, output: &mut W) -> Result<(), Trouble> {
     print_with(input, output, witness_lines)
@@ -14,7 +14,7 @@ pub fn print_witness<R: BufRead, W: Write>(input: &mut R, output: &mut W) -> Res
 
 pub fn witness_lines(bench: &Bench, outcome: &Outcome) -> String {
     let (message, past) = bench.buffer.split_at(outcome.message_length());
-    let mut text = format!("  answer {}\n", message_text(message));
+    let mut text = format!("  answer {}\n", hex_or_dash(message));
     text.push_str(&format!("  past {}\n", checksum_text(past)));
     for (r, record) in bench.records.iter().enumerate() {
         if record.in_use {
@@ -24,15 +24,8 @@ pub fn witness_lines(bench: &Bench, outcome: &Outcome) -> String {
     text
 }
 
-fn message_text(message: &[u8]) -> String {
-    if message.is_empty() {
-        "-".to_string()
-    } else {
-        hex(message)
-    }
-}
-
-fn record_lines(r: usize, record: &Record, part: &[u8]) -> String {
+/// A record, its occupied slots and its part of the store.
+pub fn record_lines(r: usize, record: &Record, part: &[u8]) -> String {
     let mut text = format!(
         "  record {} {} {} {} {} {}\n",
         r,

@@ -140,7 +140,7 @@ pub fn draft_of(address: &[u8], wish: &Wish, random: &mut Random) -> Draft {
 }
 
 fn add_copied_lines(draft: &mut Draft, address: &[u8], random: &mut Random) {
-    let text = String::from_utf8_lossy(address).into_owned();
+    let text = harmless(address);
     let vias = ["SIP/2.0/UDP pua", "SIP/2.0/TCP a;branch=z9hG4bK", "", "x,y"];
     for _ in 0..1 + random.below(5).saturating_sub(2) {
         draft.append(Name::Via, random.pick(&vias).as_bytes(), random);
@@ -151,9 +151,23 @@ fn add_copied_lines(draft: &mut Draft, address: &[u8], random: &mut Random) {
         true => random.pick(values::TO_WITH_TAG),
         false => random.pick(values::TO_WITHOUT_TAG),
     };
-    draft.append(Name::To, to.replace('A', &text).as_bytes(), random);
-    draft.append(Name::CallId, random.pick(&["1", "", "a@b"]).as_bytes(), random);
+    draft.append(Name::To, to.replace('@', &text).as_bytes(), random);
+    draft.append(
+        Name::CallId,
+        random.pick(&["1", "", "a@b"]).as_bytes(),
+        random,
+    );
     draft.append(Name::Cseq, random.pick(values::CSEQ).as_bytes(), random);
+}
+
+/// An address may have quotes and angle brackets, which To and From are to
+/// have only where they are meant.
+fn harmless(address: &[u8]) -> String {
+    address
+        .iter()
+        .filter(|byte| !b"\"<>\\;=".contains(byte))
+        .map(|&byte| char::from(byte))
+        .collect()
 }
 
 /// Content-Length exact, absent, or below what is there.
@@ -186,6 +200,9 @@ fn dress(draft: &mut Draft, random: &mut Random) {
         random.shuffle(&mut draft.lines);
     }
     if random.one_in(3) {
-        draft.version = random.pick(&[" sip/2.0\r\n", " Sip/2.0\r\n"]).as_bytes().to_vec();
+        draft.version = random
+            .pick(&[" sip/2.0\r\n", " Sip/2.0\r\n"])
+            .as_bytes()
+            .to_vec();
     }
 }

@@ -9,12 +9,16 @@ use crate::table::{record_of, Record, CLOCK_LIMIT, SLOTS};
 
 /// The address that is kept full of publications.
 pub const CROWD: &[u8] = b"sip:crowd@board.example";
+/// The address that has eight publications and then no tag left.
+pub const FULL: &[u8] = b"sip:full@board.example";
 /// The address whose clock runs up to the limit.
 pub const LATE: &[u8] = b"sip:late@board.example;x=y";
 
+const REMEMBERED: usize = 256;
+
 pub struct World {
     pub bench: Bench,
-    /// Record and tag of each success so far.
+    /// Record and tag of the latest successes.
     pub given: Vec<(usize, u32)>,
 }
 
@@ -33,11 +37,17 @@ impl World {
         if let Outcome::Answered(written) = outcome {
             if let Answer::Ok(success) = written.answer {
                 let changed = (0..spent.len()).find(|&r| self.record(r).spent != spent[r]);
-                self.given
-                    .extend(changed.iter().map(|&r| (r, success.tag)));
+                self.remember(changed.unwrap_or(0), success.tag);
             }
         }
         outcome
+    }
+
+    fn remember(&mut self, r: usize, tag: u32) {
+        if self.given.len() == REMEMBERED {
+            self.given.remove(0);
+        }
+        self.given.push((r, tag));
     }
 
     pub fn records(&self) -> &[Record] {
@@ -59,14 +69,16 @@ impl World {
             .collect()
     }
 
-    /// Any address but the crowd's.
-    pub fn ordinary(&self, random: &mut Random) -> Option<usize> {
-        random.pick_any(&self.those(|record| record.address() != CROWD))
+    /// Addresses that are not kept in some special state and have a tag left.
+    fn ordinary(&self) -> Vec<usize> {
+        self.those(|record| {
+            record.address() != CROWD && record.address() != FULL && record.spent < u32::MAX
+        })
     }
 
     /// An address, and a clock for it, at which an initial publication works.
     pub fn with_room(&self, random: &mut Random) -> Option<(usize, u64)> {
-        let candidates = self.those(|record| record.address() != CROWD && record.spent < u32::MAX);
+        let candidates = self.ordinary();
         for _ in 0..8 {
             let r = random.pick_any(&candidates)?;
             let clock = self.clock_for(r, random);
@@ -80,7 +92,7 @@ impl World {
     /// A publication that is live at its address's latest clock.
     pub fn live_slot(&self, random: &mut Random) -> Option<(usize, usize)> {
         let mut found = Vec::new();
-        for r in self.those(|record| record.address() != CROWD && record.spent < u32::MAX) {
+        for r in self.ordinary() {
             let record = self.record(r);
             found.extend(record.live(record.latest).map(|(k, _)| (r, k)));
         }
@@ -89,29 +101,12 @@ impl World {
 
     /// A clock not below the latest: often near it, often near some end.
     pub fn clock_for(&self, r: usize, random: &mut Random) -> u64 {
-        let record = self.record(r);
-        let ends: Vec<u64> = record.occupied().map(|(_, slot)| slot.end).collect();
-        let clock = match (random.below(10), random.pick_any(&ends)) {
-            (0, _) => record.latest,
-            (1 | 2, Some(end)) => end - 1 + random.below(3),
-            (3, _) => record.latest + random.below(700),
-            (4, _) => record.latest + random.below(8000),
-            _ => record.latest + random.below(40),
-        };
-        clock.max(record.latest).min(CLOCK_LIMIT)
+        clock_for(self.record(r), random)
     }
 
     /// A clock at which that publication is live, often the last one.
     pub fn live_clock(&self, r: usize, k: usize, random: &mut Random) -> u64 {
-        let record = self.record(r);
-        let last = (record.slots[k].end - 1).min(CLOCK_LIMIT);
-        let span = last - record.latest;
-        match random.below(4) {
-            0 => last,
-            1 => record.latest,
-            2 => record.latest + random.below(span + 1),
-            _ => record.latest + random.below(span.min(30) + 1),
-        }
+        live_clock(self.record(r), k, random)
     }
 
     /// Whether that tag text names a live publication of that package.
@@ -119,5 +114,29 @@ impl World {
         self.record(r)
             .live(clock)
             .any(|(_, slot)| slot.package == package && crate::tags::presents(tag, slot.tag))
+    }
+}
+
+pub fn clock_for(record: &Record, random: &mut Random) -> u64 {
+    let ends: Vec<u64> = record.occupied().map(|(_, slot)| slot.end).collect();
+    let clock = match (random.below(10), random.pick_any(&ends)) {
+        (0, _) => record.latest,
+        (1 | 2, Some(end)) => end - 1 + random.below(3),
+        (3, _) => record.latest + random.below(700),
+        (4, _) => record.latest + random.below(8000),
+        _ => record.latest + random.below(40),
+    };
+    clock.max(record.latest).min(CLOCK_LIMIT)
+}
+
+/// The slot must be live at the latest clock.
+pub fn live_clock(record: &Record, k: usize, random: &mut Random) -> u64 {
+    let last = (record.slots[k].end - 1).min(CLOCK_LIMIT);
+    let span = last - record.latest;
+    match random.below(4) {
+        0 => last,
+        1 => record.latest,
+        2 => record.latest + random.below(span + 1),
+        _ => record.latest + random.below(span.min(30) + 1),
     }
 }

@@ -1,0 +1,305 @@
+//! The generator of bench input: a deck of ideas, shuffled and dealt over and
+//! over, each made into a line that suits what the engine holds just then.
+
+mod attempt;
+mod draft;
+mod faults;
+mod lines;
+mod mutations;
+mod oddities;
+mod random;
+pub mod requests;
+mod scene;
+mod script_faults;
+pub mod scripts;
+mod steps;
+mod values;
+mod world;
+
+use std::io::{self, Write};
+
+use crate::bench::Outcome;
+use crate::frames_out::add_frame;
+use crate::packages;
+use crate::table::{CLOCK_LIMIT, MOST_RECORDS, SLOTS};
+use crate::tags::STEP;
+use attempt::{Attempt, Wish};
+use faults::Fault;
+use random::Random;
+use world::{World, CROWD, FULL, LATE};
+
+#[derive(Clone, Copy)]
+enum Idea {
+    OneFault(Fault),
+    SeveralFaults,
+    Initial,
+    Refresh,
+    Modify,
+    Remove,
+    InitialOfZero,
+    Crowd,
+    Spent,
+    Late,
+    Again,
+    Mutated,
+    MostHeaderLines,
+    LongestRequest,
+    NewAddress,
+    PresentAddress,
+    MalformedAddress,
+    BadLine,
+}
+
+/// How often each idea stands in the deck, besides each fault once.
+const IDEAS: [(Idea, usize); 19] = [
+    (Idea::OneFault(Fault::Cseq), 1),
+    (Idea::OneFault(Fault::NoLivePublication), 2),
+    (Idea::SeveralFaults, 7),
+    (Idea::Initial, 6),
+    (Idea::Refresh, 3),
+    (Idea::Modify, 3),
+    (Idea::Remove, 2),
+    (Idea::InitialOfZero, 1),
+    (Idea::Crowd, 4),
+    (Idea::Spent, 2),
+    (Idea::Late, 1),
+    (Idea::Again, 1),
+    (Idea::Mutated, 6),
+    (Idea::MostHeaderLines, 1),
+    (Idea::LongestRequest, 1),
+    (Idea::NewAddress, 2),
+    (Idea::PresentAddress, 1),
+    (Idea::MalformedAddress, 1),
+    (Idea::BadLine, 2),
+];
+
+/// Addresses that are added early; the others come later.
+const EARLY: usize = 13;
+
+pub struct Generator {
+    random: Random,
+    world: World,
+    deck: Vec<Idea>,
+    /// Frames that add the sixteen addresses, the next one last.
+    planned: Vec<Vec<u8>>,
+    last_line: Vec<u8>,
+}
+
+impl Generator {
+    pub fn new(seed: u64) -> Generator {
+        let mut random = Random::new(seed);
+        let planned = planned_addresses(&mut random);
+        Generator {
+            random,
+            world: World::new(),
+            deck: Vec::new(),
+            planned,
+            last_line: Vec::new(),
+        }
+    }
+
+    /// The next input line without its LF, and what the engine made of it.
+    pub fn next_line(&mut self) -> (Vec<u8>, Outcome) {
+        let early = self.planned.len() > MOST_RECORDS - EARLY;
+        let line = if early && self.random.one_in(2) {
+            self.new_address()
+        } else {
+            let idea = self.deal();
+            self.line_of(idea)
+        };
+        let outcome = self.world.run(&line);
+        self.last_line = line.clone();
+        (line, outcome)
+    }
+
+    fn deal(&mut self) -> Idea {
+        if self.deck.is_empty() {
+            self.deck.extend(faults::ALL.map(Idea::OneFault));
+            for (idea, count) in IDEAS {
+                self.deck.extend(vec![idea; count]);
+            }
+            self.random.shuffle(&mut self.deck);
+        }
+        self.deck.pop().unwrap_or(Idea::Initial)
+    }
+
+    fn line_of(&mut self, idea: Idea) -> Vec<u8> {
+        let (world, random) = (&self.world, &mut self.random);
+        let frame = match idea {
+            Idea::NewAddress => return self.new_address(),
+            Idea::Again => return self.last_line.clone(),
+            Idea::BadLine => return lines::bad_line(world, random),
+            Idea::OneFault(fault) => faults::single(fault, world, random).frame(),
+            Idea::SeveralFaults => faults::several(world, random).frame(),
+            Idea::Initial => Attempt::initial(world, random).frame(),
+            Idea::Refresh => Attempt::matching(world, random, |wish, _| wish).frame(),
+            Idea::Modify => Attempt::matching(world, random, Wish::with_body).frame(),
+            Idea::Remove => remove(world, random).frame(),
+            Idea::InitialOfZero => initial_of_zero(world, random).frame(),
+            Idea::Crowd => crowd(world, random).frame(),
+            Idea::Spent => spent(world, random).frame(),
+            Idea::Late => late(world, random).frame(),
+            Idea::Mutated => lines::mutated(world, random),
+            Idea::MostHeaderLines => lines::most_header_lines(world, random),
+            Idea::LongestRequest => lines::longest_request(world, random),
+            Idea::PresentAddress => lines::present_address(world, random),
+            Idea::MalformedAddress => lines::malformed_address(world, random),
+        };
+        lines::any_case_line(&frame, random)
+    }
+
+    /// A planned address, or after those one for which no record is left.
+    fn new_address(&mut self) -> Vec<u8> {
+        let random = &mut self.random;
+        let frame = match self.planned.pop() {
+            Some(frame) => frame,
+            None => add_frame(random.word() as u32, 0, &lines::new_address(random)),
+        };
+        lines::any_case_line(&frame, random)
+    }
+}
+
+/// Sixteen addresses, some alike, with starts at which tags run over and spent
+/// counts near their end. The first to be added stands last.
+fn planned_addresses(random: &mut Random) -> Vec<Vec<u8>> {
+    let any = random.word() as u32;
+    let first_tag_is_zero = 0u32.wrapping_sub(STEP);
+    let mut planned = vec![
+        add_frame(0, 0, b"ann"),
+        add_frame(any, 7, CROWD),
+        add_frame(any, u32::MAX, b"sip:spent@board.example"),
+        add_frame(any, 4294967200, LATE),
+        add_frame(1, 0, b"bo"),
+        add_frame(any, u32::MAX - 3, b"an"),
+        add_frame(first_tag_is_zero, 0, b"sip:ann@board.example"),
+        add_frame(any, u32::MAX - 12, b"Ann"),
+        add_frame(u32::MAX, 1 << 31, &[b'~'; 64]),
+        add_frame(random.word() as u32, random.word() as u32, b"!"),
+        add_frame(
+            first_tag_is_zero.wrapping_sub(STEP),
+            1,
+            b"sip:Ann@board.example",
+        ),
+        add_frame(u32::MAX, 0, b"\"<;tag=1"),
+        add_frame(any, u32::MAX - 8, FULL),
+    ];
+    while planned.len() < MOST_RECORDS {
+        let start = random.word() as u32;
+        planned.push(add_frame(start, 0, &lines::new_address(random)));
+    }
+    random.shuffle(&mut planned[..EARLY]);
+    planned.reverse();
+    planned
+}
+
+/// Removal, with a body now and then.
+fn remove(world: &World, random: &mut Random) -> Attempt {
+    Attempt::matching(world, random, |wish, random| {
+        let wish = match random.one_in(3) {
+            true => wish.with_body(random),
+            false => wish,
+        };
+        wish.of_zero(random)
+    })
+}
+
+fn initial_of_zero(world: &World, random: &mut Random) -> Attempt {
+    match world.with_room(random) {
+        Some((r, clock)) => {
+            let wish = Wish::initial(random).of_zero(random);
+            Attempt::new(world, r, clock, &wish, random)
+        }
+        None => Attempt::initial(world, random),
+    }
+}
+
+/// Fills one address, then tries a ninth: with all eight live, with one of
+/// them just run out, and in ways that need no room.
+fn crowd(world: &World, random: &mut Random) -> Attempt {
+    let r = match world.find(CROWD) {
+        Some(r) => r,
+        None => return Attempt::initial(world, random),
+    };
+    let record = world.record(r);
+    let live: Vec<_> = record.live(record.latest).collect();
+    let mut wish = Wish::initial(random);
+    let most = u64::from(packages::MOST[wish.package]);
+    wish.expires = Some((600 + random.below(most - 599)).to_string());
+    let soon = record.latest + random.below(4);
+    let least_end = match live.iter().map(|(_, slot)| slot.end).min() {
+        Some(end) if live.len() == SLOTS => end,
+        _ => return Attempt::new(world, r, soon, &wish, random),
+    };
+    let clock = match random.below(8) {
+        0 => least_end,
+        1 => least_end + 1,
+        2 | 3 => least_end - 1,
+        4 => {
+            let (k, _) = *random.pick(&live);
+            wish = Wish::refresh(world, r, k, random);
+            record.latest
+        }
+        5 => {
+            wish = wish.of_zero(random);
+            record.latest
+        }
+        _ => soon.min(least_end - 1),
+    };
+    let mut attempt = Attempt::new(world, r, clock, &wish, random);
+    if random.one_in(8) {
+        faults::one_more(&mut attempt, world, random);
+    }
+    attempt
+}
+
+/// An address without a tag left: a fresh publication, or one it has still,
+/// now and then with a fault besides.
+fn spent(world: &World, random: &mut Random) -> Attempt {
+    let none_left = world.those(|record| record.spent == u32::MAX);
+    let full = world.find(FULL).filter(|_| random.one_in(2));
+    let r = match full.or_else(|| random.pick_any(&none_left)) {
+        Some(r) => r,
+        None => return Attempt::initial(world, random),
+    };
+    let record = world.record(r);
+    let live: Vec<usize> = record.live(record.latest).map(|(k, _)| k).collect();
+    let wish = match random.pick_any(&live) {
+        Some(k) if full.is_none() && random.one_in(2) => Wish::refresh(world, r, k, random),
+        _ => Wish::initial(random),
+    };
+    let mut attempt = Attempt::new(world, r, record.latest, &wish, random);
+    if record.spent == u32::MAX && random.one_in(4) {
+        faults::one_more(&mut attempt, world, random);
+    }
+    attempt
+}
+
+/// The address whose clock is at the limit, or soon will be.
+fn late(world: &World, random: &mut Random) -> Attempt {
+    let r = match world.find(LATE) {
+        Some(r) => r,
+        None => return Attempt::initial(world, random),
+    };
+    let record = world.record(r);
+    let clock = CLOCK_LIMIT - random.pick(&[0, 0, 0, 1, 60, 3600]);
+    let live: Vec<usize> = record.live(clock).map(|(k, _)| k).collect();
+    let wish = match random.pick_any(&live) {
+        Some(k) if random.one_in(2) => Wish::refresh(world, r, k, random),
+        _ => Wish::initial(random),
+    };
+    let wish = match random.one_in(3) {
+        true => wish.of_zero(random),
+        false => wish,
+    };
+    Attempt::new(world, r, clock, &wish, random)
+}
+
+pub fn print_frames<W: Write>(seed: u64, lines: u64, output: &mut W) -> io::Result<()> {
+    let mut generator = Generator::new(seed);
+    for _ in 0..lines {
+        let (mut line, _) = generator.next_line();
+        line.push(b'\n');
+        output.write_all(&line)?;
+    }
+    Ok(())
+}
