@@ -6,7 +6,7 @@ use Prim.Native.Nat.{ℕ, zero, suc, _<_, _≤_}
 use native.Mathlib.Nat.{not-suc-le-zero, le-of-suc-le-suc}
 use lib.Dec.{eqb}
 use lib.ListN.{length, getD, set, replicate}
-use borrow.Author.Tests.{eqb-true, eq-eqb}
+use borrow.Author.Tests.{eqb-true, eq-eqb, not-true, not-false}
 use Rattle.laws.specs.Choose.{pick}
 use Rattle.laws.specs.Lists.{every, those, pairwise, placeOf, same}
 
@@ -38,6 +38,14 @@ or-right false b e = e
 pub and-fails : (a b : Bool) → (a && b) ≡ false → a ≡ true → b ≡ false
 and-fails true b e h = e
 and-fails false b e h = absurd (false≢true h)
+
+-- a test fails where its answer, turned round, holds
+pub turned-fails : {answer test : Bool} → answer ≡ test → not answer ≡ true → test ≡ false
+turned-fails {answer} e h = sym e ∙ not-true answer h
+
+-- and holds where its answer, turned round, fails
+pub turned-holds : {answer test : Bool} → answer ≡ test → not answer ≡ false → test ≡ true
+turned-holds {answer} e h = sym e ∙ not-false answer h
 
 -- the same lists are equal
 pub same-equal : (s t : List ℕ) → same s t ≡ true → s ≡ t

@@ -1,7 +1,7 @@
 -- The refusals: one list of tests in the paper's order, and the first that applies.
 use Prim.Native.Nat.{ℕ, _-_, _*_}
 use mathlib.Core.Bool.{Bool, _&&_, _||_, not}
-use mathlib.Core.List.{List, [], _∷_}
+use mathlib.Core.List.{List, [], _∷_, _++_}
 use lib.Dec.{eqb, ltb}
 use lib.ListN.{length}
 use Rattle.laws.specs.Choose.{pick}
@@ -52,38 +52,87 @@ requested s h = pick (absent Expires h) (packageAt (eventOf s h) .default) (valu
 unfoldable pub granted : List ℕ → Head → ℕ
 granted s h = smaller (requested s h) (packageAt (eventOf s h) .most)
 
--- the slot of the live publication that the request presents; 8 where none has that tag
-unfoldable pub presented : Case → ℕ
-presented c = matching (c .clock) (eventOf (c .text) (c .head)) (matchText (c .text) (c .head)) (c .own)
+-- the slot of the live publication of that package that the request presents; 8 where none has that tag
+unfoldable pub presented : Record → ℕ → List ℕ → Head → ℕ
+presented r clock s h = matching clock (eventOf s h) (matchText s h) r
 
--- the refusals, in the order tried
-unfoldable pub refusals : Case → List (Row Outcome)
-refusals c =
-    let s = c .text in
-    let h = c .head in
-    let r = c .own in
-    let listed = packageAt (eventOf s h) in
-    row (ltb (c .buffer) 4608) (Silent 1) ∷
-    row (isBadSize (c .records) (c .store)) (Silent 2) ∷
-    row (ltb 4096 (length s)) (Silent 3) ∷
-    row (ltb latestClock (c .clock)) (Silent 4) ∷
-    row (not (c .sound)) (Silent 5) ∷
+-- Event absent or package not listed
+unfoldable pub isBadEvent : List ℕ → Head → Bool
+isBadEvent s h = absent Event h || not (isListed (eventOf s h))
+
+-- SIP-If-Match given, no live publication of that package has it
+unfoldable pub isUnmatched : Record → ℕ → List ℕ → Head → Bool
+isUnmatched r clock s h = hasMatch h && not (ltb (presented r clock s h) 8)
+
+-- requested time above 0 and below the least
+unfoldable pub isTooBrief : List ℕ → Head → Bool
+isTooBrief s h = ltb 0 (requested s h) && ltb (requested s h) (packageAt (eventOf s h) .least)
+
+-- body not empty, content type absent or another
+unfoldable pub isOtherType : List ℕ → Head → Bool
+isOtherType s h = ltb 0 (bodyLength s h) && not (hasType (packageAt (eventOf s h) .type) s h)
+
+-- no body and no SIP-If-Match
+unfoldable pub isNothing : List ℕ → Head → Bool
+isNothing s h = eqb (bodyLength s h) 0 && not (hasMatch h)
+
+-- no SIP-If-Match, granted time above 0, eight live there
+unfoldable pub isFull : Record → ℕ → List ℕ → Head → Bool
+isFull r clock s h = not (hasMatch h) && (ltb 0 (granted s h) && eqb (length (live clock r)) 8)
+
+-- the refusals, in the order tried: before anything is read, the sizes of what is lent and the clock
+unfoldable pub sizeRows : ℕ → ℕ → ℕ → ℕ → ℕ → List (Row Outcome)
+sizeRows buffer records store request clock =
+    row (ltb buffer 4608) (Silent 1) ∷
+    row (isBadSize records store) (Silent 2) ∷
+    row (ltb 4096 request) (Silent 3) ∷
+    row (ltb latestClock clock) (Silent 4) ∷
+    []
+
+-- then, behind the soundness of every record, what the request says by itself
+unfoldable pub readingRows : List ℕ → Head → List (Row Outcome)
+readingRows s h =
     row (not (isReadable s h) || same (methodOf s h) (bytes "ACK")) (Silent 6) ∷
     row (not (same (methodOf s h) (bytes "PUBLISH"))) (Refused 405 Allow) ∷
     row (isBadRequest s h) (Refused 400 Nothing) ∷
-    row (not (c .known)) (Refused 404 Nothing) ∷
-    row (absent Event h || not (isListed (eventOf s h))) (Refused 489 AllowEvents) ∷
-    row (ltb (c .clock) (r .clock)) (Refused 500 Nothing) ∷
-    row (isBadMatch s h) (Refused 400 Nothing) ∷
-    row (hasMatch h && not (ltb (presented c) 8)) (Refused 412 Nothing) ∷
-    row (ltb 0 (requested s h) && ltb (requested s h) (listed .least)) (Refused 423 (MinExpires (listed .least))) ∷
-    row (ltb 512 (bodyLength s h)) (Refused 413 Nothing) ∷
-    row (ltb 0 (bodyLength s h) && not (hasType (listed .type) s h)) (Refused 415 (Accept (eventOf s h))) ∷
-    row (eqb (bodyLength s h) 0 && not (hasMatch h)) (Refused 400 Nothing) ∷
-    row (eqb (r .spent) 4294967295) (Refused 500 Nothing) ∷
-    row (not (hasMatch h) && (ltb 0 (granted s h) && eqb (length (live (c .clock) r)) 8))
-    (Refused 503 (RetryAfter (leastEnd (live (c .clock) r) - c .clock))) ∷
     []
+
+-- then the address, its record, and the tag presented
+unfoldable pub addressRows : Bool → Record → ℕ → List ℕ → Head → List (Row Outcome)
+addressRows known r clock s h =
+    row (not known) (Refused 404 Nothing) ∷
+    row (isBadEvent s h) (Refused 489 AllowEvents) ∷
+    row (ltb clock (r .clock)) (Refused 500 Nothing) ∷
+    row (isBadMatch s h) (Refused 400 Nothing) ∷
+    row (isUnmatched r clock s h) (Refused 412 Nothing) ∷
+    []
+
+-- then the time requested and the body
+unfoldable pub contentRows : List ℕ → Head → List (Row Outcome)
+contentRows s h =
+    row (isTooBrief s h) (Refused 423 (MinExpires (packageAt (eventOf s h) .least))) ∷
+    row (ltb 512 (bodyLength s h)) (Refused 413 Nothing) ∷
+    row (isOtherType s h) (Refused 415 (Accept (eventOf s h))) ∷
+    row (isNothing s h) (Refused 400 Nothing) ∷
+    []
+
+-- then what the address has left
+unfoldable pub roomRows : Record → ℕ → List ℕ → Head → List (Row Outcome)
+roomRows r clock s h =
+    row (eqb (r .spent) 4294967295) (Refused 500 Nothing) ∷
+    row (isFull r clock s h) (Refused 503 (RetryAfter (leastEnd (live clock r) - clock))) ∷
+    []
+
+-- the refusals that a request for one address is tried against, once the sizes, the clock and the table are good
+unfoldable pub requestRows : Bool → Record → ℕ → List ℕ → Head → List (Row Outcome)
+requestRows known r clock s h =
+    readingRows s h ++ (addressRows known r clock s h ++ (contentRows s h ++ roomRows r clock s h))
+
+-- the one list
+unfoldable pub refusals : Case → List (Row Outcome)
+refusals c =
+    sizeRows (c .buffer) (c .records) (c .store) (length (c .text)) (c .clock)
+    ++ (row (not (c .sound)) (Silent 5) ∷ requestRows (c .known) (c .own) (c .clock) (c .text) (c .head))
 
 -- the first that applies is given, and otherwise the request succeeds
 unfoldable pub outcomeOf : Case → Outcome

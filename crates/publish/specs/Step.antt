@@ -20,7 +20,7 @@ successOf c =
     record {
       clock = c .clock;
       event = eventOf s h;
-      slot = pick (hasMatch h) (presented c) 8;
+      slot = pick (hasMatch h) (presented (c .own) (c .clock) s h) 8;
       granted = granted s h;
       length = bodyLength s h;
     }

@@ -11,7 +11,7 @@ use Rattle.laws.specs.Choose.{pick}
 use Rattle.laws.proofs.Tests.{and-right}
 use Rattle.record.specs.Places.{Place, isWhole, freePlace, placesIn, places, slotsOf}
 use Rattle.record.specs.Store.{room, cleared}
-use Rattle.record.specs.After.{freed, freedPlaces, isMatch, writtenSlot, endedPlaces, writtenPlaces, placesAfter, recordAfter, withBody, partAfter}
+use Rattle.record.specs.After.{freed, freedAt, freedPlaces, isMatch, writtenSlot, endedPlaces, writtenPlaces, placesAfter, recordAfter, withBody, partAfter}
 use Rattle.record.specs.declared.Slot.{Slot}
 use Rattle.record.specs.declared.Record.{Record}
 use Rattle.record.specs.declared.Success.{Success}
@@ -22,7 +22,7 @@ unfolding room
 room-length n bs = simp (length-take, length-append, length-replicate) (omega arith)
 
 -- the 512 bytes of a place, whether it is occupied or not
-place-length : (taken : Bool) (n : ℕ) (bs : List ℕ) → length (pick taken (room n bs) (replicate 512 0)) ≡ 512
+pub place-length : (taken : Bool) (n : ℕ) (bs : List ℕ) → length (pick taken (room n bs) (replicate 512 0)) ≡ 512
 place-length true n bs = room-length n bs
 place-length false n bs = refl
 
@@ -49,7 +49,7 @@ slotsOf-length (p ∷ ps) = ap suc (slotsOf-length ps)
 
 -- freeing takes no place away
 pub freedPlaces-length : (x : Success) (r : Record) → length (freedPlaces x r) ≡ length (r .slots)
-unfolding freedPlaces places
+unfolding freedPlaces freedAt places
 freedPlaces-length x r = length-map (placesIn (r .map) (r .slots)) (freed (x .clock)) ∙ placesIn-length (r .map) (r .slots)
 
 -- a success takes no place away and adds none

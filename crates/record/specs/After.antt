@@ -26,8 +26,11 @@ unfoldable pub freed : ℕ → Place → Place
 freed clock p = pick (p .taken && leb (p .slot .end) clock) freePlace p
 
 -- the places with those freed whose end has come
+unfoldable pub freedAt : ℕ → Record → List Place
+freedAt clock r = map (freed clock) (places r)
+
 unfoldable pub freedPlaces : Success → Record → List Place
-freedPlaces x r = map (freed (x .clock)) (places r)
+freedPlaces x r = freedAt (x .clock) r
 
 -- a tag was presented, and matched
 unfoldable pub isMatch : Success → Bool

@@ -1,4 +1,5 @@
 pub mod Packages
+pub mod Map
 pub mod Places
 pub mod Address
 pub mod Sound

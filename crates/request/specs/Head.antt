@@ -46,17 +46,17 @@ seenIn [] = zeroSeen
 seenIn (l ∷ []) = record { times = 1; line = l }
 seenIn (l ∷ m ∷ ls) = record { times = 2; line = l }
 
--- the ten names
-abbrev pub ten : List ℕ
-ten = 0 ∷ 1 ∷ 2 ∷ 3 ∷ 4 ∷ 5 ∷ 6 ∷ 7 ∷ 8 ∷ 9 ∷ []
+-- the numbers of our ten names, and that of any other
+abbrev pub numbers : List ℕ
+numbers = 0 ∷ 1 ∷ 2 ∷ 3 ∷ 4 ∷ 5 ∷ 6 ∷ 7 ∷ 8 ∷ 9 ∷ 10 ∷ []
 
 -- which names stand how often
 unfoldable pub seenOf : List ℕ → List Line → List Seen
-seenOf s ls = map (λ n. seenIn (linesNamed n s ls)) ten
+seenOf s ls = map (λ n. seenIn (linesNamed n s ls)) numbers
 
 -- one whose first line or header lines cannot be read
 abbrev pub notBuilt : Head
-notBuilt = record { built = false; method = 0; uri = 0; rest = 0; seen = replicate 10 zeroSeen }
+notBuilt = record { built = false; method = 0; uri = 0; rest = 0; seen = replicate 11 zeroSeen }
 
 unfoldable pub withHeaders : List ℕ → ℕ → ℕ → Headers → Head
 withHeaders s m u (headers ls rest) = record { built = true; method = m; uri = u; rest = rest; seen = seenOf s ls }

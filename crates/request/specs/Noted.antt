@@ -14,7 +14,7 @@ use Rattle.request.specs.declared.Seen.{Seen}
 unfoldable pub notedOnce : Seen → Line → Seen
 notedOnce f l = pick (eqb (f .times) 0) (record { times = 1; line = l }) (record { times = 2; line = f .line })
 
--- the names seen, with one line more; a name that is none of ours changes nothing
+-- the names seen, with one line more
 unfoldable pub noted : List ℕ → List Seen → Line → List Seen
 noted s seen l = let n = nameNumber (nameOf s l) in set seen n (notedOnce (getD seen n zeroSeen) l)
 

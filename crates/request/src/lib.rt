@@ -1,4 +1,10 @@
 // Reading a request: its first line, its header lines, the fields we read, and its body.
+pub mod first_line;
+pub mod header_line;
+pub mod names;
+pub mod to;
+pub mod reading;
+pub mod fields;
 
 // The first line: where its method and its Request-URI end, and where the next line begins.
 pub enum FirstLine {
@@ -45,11 +51,12 @@ pub struct Seen {
 }
 
 // What the first line and the header lines say: whether they are built as they must be, where the method and the
-// Request-URI end, where what follows the empty line begins, and the names seen.
+// Request-URI end, where what follows the empty line begins, and the names seen:
+// ours by their numbers, and behind them any other.
 pub struct Head {
     pub built: bool,
     pub method: usize,
     pub uri: usize,
     pub rest: usize,
-    pub seen: [Seen; 10],
+    pub seen: [Seen; 11],
 }

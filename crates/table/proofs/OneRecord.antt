@@ -21,7 +21,7 @@ use Rattle.record.specs.Store.{partAt, partOf, withPart}
 use Rattle.record.specs.declared.Record.{Record}
 use Rattle.record.proofs.Store.{partAfter-length, whole-slots}
 use Rattle.publish.specs.Outcomes.{isSuccess}
-use Rattle.publish.specs.Refusals.{Case, isBadSize, refusals, outcomeOf}
+use Rattle.publish.specs.Refusals.{Case, isBadSize, refusals, sizeRows, requestRows, readingRows, addressRows, contentRows, roomRows, outcomeOf}
 use Rattle.publish.specs.Step.{successOf, ownAfter, partAfterwards}
 use Rattle.table.specs.Table.{Table, badSize, placeFor, isKnown, recordAt, withRecord}
 use Rattle.table.specs.Add.{Entry, added, addRefusals, lowestUnused, freshRecord}
@@ -83,18 +83,18 @@ part-lies t i e h =
 
 -- where a request succeeds, no refusal applied
 pub none-refusing : (c : Case) → isSuccess (outcomeOf c) ≡ true → (k : ℕ) → getD (tests (refusals c)) k false ≡ false
-unfolding outcomeOf refusals every isSuccess
+unfolding outcomeOf refusals requestRows sizeRows readingRows addressRows contentRows roomRows every isSuccess
 none-refusing c e = none-applied isSuccess (refusals c) _ refl e
 
 -- where a request succeeds, the sizes are good
 success-size : (t : Table) (buffer : List ℕ) (x : Input) → isSuccess (outcomeOf (caseOf t buffer x)) ≡ true → badSize t ≡ false
-unfolding caseOf refusals badSize
+unfolding caseOf refusals sizeRows badSize
 success-size t buffer x e = none-refusing (caseOf t buffer x) e 1
 
 -- where a request succeeds, its address is in the table
 success-known : (t : Table) (buffer : List ℕ) (x : Input) → isSuccess (outcomeOf (caseOf t buffer x)) ≡ true
     → placeFor (uriOf (x .request) (headOf (x .request))) t < length (t .records)
-unfolding caseOf refusals isKnown
+unfolding caseOf refusals sizeRows requestRows readingRows addressRows isKnown
 success-known t buffer x e = ltb-true _ _ (not-false _ (none-refusing (caseOf t buffer x) e 8))
 
 -- a success writes 4,096 bytes

@@ -1,0 +1,36 @@
+-- The laws of the names' numbers.
+use mathlib.Core.Path.{_≡_, sym, _∙_}
+use mathlib.Core.Bool.{Bool, true, false, or-false}
+use mathlib.Core.List.{List, [], _∷_}
+use Prim.Native.Nat.{ℕ, suc, _≤_}
+use native.Mathlib.Omega.{arith}
+use lib.ListN.{length, drop}
+use Rattle.laws.specs.Choose.{pick}
+use Rattle.laws.specs.Lists.{placeOf, any}
+use Rattle.text.specs.Names.{sameText, isNamed}
+use Rattle.request.specs.Names.{spellings, nameNumber}
+
+-- a place that is looked for lies within the list or at its end
+pub place-within : {A : Type 0} (f : A → Bool) (xs : List A) → placeOf f xs ≤ length xs
+unfolding placeOf
+place-within f [] = omega arith
+place-within f (x ∷ xs) = go (f x) (place-within f xs)
+  where
+    go : (b : Bool) → placeOf f xs ≤ length xs → pick b 0 (suc (placeOf f xs)) ≤ suc (length xs)
+    go true h = omega arith
+    go false h = omega arith
+
+-- the numbers are at most 10
+pub number-within : (t : List ℕ) → nameNumber t ≤ 10
+unfolding nameNumber spellings
+number-within t = place-within (λ n. isNamed n t) spellings
+
+-- those of the last five, counted from 0, at most 5
+pub late-within : (t : List ℕ) (r : ℕ) → r ≡ placeOf (λ n. isNamed n t) (drop 5 spellings) → r ≤ 5
+unfolding spellings
+late-within t r e = omega (arith, place-within (λ n. isNamed n t) (drop 5 spellings))
+
+-- a name that has one spelling
+pub named-one : (t s : List ℕ) (b : Bool) → b ≡ sameText t s → b ≡ isNamed (s ∷ []) t
+unfolding isNamed any
+named-one t s b e = e ∙ sym (or-false (sameText t s))
