@@ -16,9 +16,12 @@ put-put : (d : List ℕ) (at : ℕ) (a b : List ℕ) → at ≤ length d
     → putAt (putAt d at a) (at + length a) b ≡ putAt d at (a ++ b)
 unfolding putAt
 put-put d at a b h =
-    rw (take-at (take at d ++ a) (drop (at + length a) d) (at + length a) head,
-    ← drop-drop (length b) (at + length a) (take at d ++ a ++ drop (at + length a) d),
-    drop-at (take at d ++ a) (drop (at + length a) d) (at + length a) head, drop-drop (length b) (at + length a) d)
+    rw (
+      take-at (take at d ++ a) (drop (at + length a) d) (at + length a) head,
+      ← drop-drop (length b) (at + length a) (take at d ++ a ++ drop (at + length a) d),
+      drop-at (take at d ++ a) (drop (at + length a) d) (at + length a) head,
+      drop-drop (length b) (at + length a) d,
+    )
     (simp (append-assoc, length-append, add-assoc))
   where
     head : length (take at d ++ a) ≡ at + length a

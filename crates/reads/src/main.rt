@@ -5,9 +5,9 @@ use page::input;
 use page::input::Decoded;
 use page::input::Held;
 use page::output;
-use request::fields;
 use request::Head;
 use request::ToValue;
+use request::fields;
 use text::number::Num;
 
 // Puts a space and a text in hex.
@@ -112,7 +112,11 @@ fn put_numbers(out: &mut [u8], at: usize, s: &[u8], h: Head) -> usize {
 // Puts package, content type, the tag presented, and the body.
 fn put_back(out: &mut [u8], at: usize, s: &[u8], h: Head) -> usize {
     let p1 = put_text(out, at, fields::event_text(s, h));
-    let p2 = put_text(out, p1, text::runs::up_to_parameter(fields::value_named(s, h, 5)));
+    let p2 = put_text(
+        out,
+        p1,
+        text::runs::up_to_parameter(fields::value_named(s, h, 5)),
+    );
     let p3 = put_match(out, p2, s, h);
     put_body(out, p3, s, h)
 }

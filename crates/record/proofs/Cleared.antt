@@ -14,7 +14,7 @@ use Rattle.laws.specs.Choose.{pick}
 use Rattle.laws.proofs.Parts.{append-behind}
 use Rattle.record.specs.Places.{Place}
 use Rattle.record.specs.Store.{room, cleared}
-use Rattle.record.proofs.Store.{place-length}
+use Rattle.record.proofs.StoreLaws.{place-length}
 use Rattle.record.proofs.Places.{placeAt}
 
 -- of zeros every byte is 0, also past their end

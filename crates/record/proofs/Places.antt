@@ -23,12 +23,12 @@ abbrev pub slotsTaken : List Place → List Slot
 slotsTaken ps = slotsOf (those (λ p. p .taken) ps)
 
 -- the lowest bit of a map says whether the first place is occupied
-lowest-bit : (t : Bool) (m : ℕ) → eqb ((pick t 1 0 + 2 * m) % 2) 1 ≡ t
+pub lowest-bit : (t : Bool) (m : ℕ) → eqb ((pick t 1 0 + 2 * m) % 2) 1 ≡ t
 lowest-bit true m = eq-eqb ((1 + 2 * m) % 2) 1 (omega arith)
 lowest-bit false m = ne-eqb ((0 + 2 * m) % 2) 1 (omega arith)
 
 -- its other bits are the map of the other places
-other-bits : (t : Bool) (m : ℕ) → (pick t 1 0 + 2 * m) / 2 ≡ m
+pub other-bits : (t : Bool) (m : ℕ) → (pick t 1 0 + 2 * m) / 2 ≡ m
 other-bits true m = omega arith
 other-bits false m = omega arith
 
@@ -96,7 +96,7 @@ first-apart : (key : Slot → ℕ) (p : Place) (ps : List Place) → pairwise (d
     → p .taken ≡ true → placeAt ps k .taken ≡ true → key (p .slot) ≡ key (placeAt ps k .slot) → ⊥
 first-apart key p ps e k s t same =
     let others : every (differ key (p .slot)) (slotsTaken ps) ≡ true =
-        pairwise-head (differ key) (p .slot) (slotsTaken ps) (taken-first (λ ss. pairwise (differ key) ss ≡ true) p ps s e) in
+    pairwise-head (differ key) (p .slot) (slotsTaken ps) (taken-first (λ ss. pairwise (differ key) ss ≡ true) p ps s e) in
     eqb-false (key (p .slot)) (key (placeAt ps k .slot)) (not-true _ (each-found (differ key (p .slot)) ps others k t)) same
 
 -- where the occupied slots differ pairwise in a field, the occupied places are apart
@@ -119,7 +119,7 @@ unfolding pairwise those slotsOf
 apart-tested key [] h = refl
 apart-tested key (p ∷ ps) h =
     let rest : pairwise (differ key) (slotsTaken ps) ≡ true =
-        apart-tested key ps (λ i j s t same. let e : suc i ≡ suc j = h (suc i) (suc j) s t same in omega arith) in
+    apart-tested key ps (λ i j s t same. let e : suc i ≡ suc j = h (suc i) (suc j) s t same in omega arith) in
     taken-more (λ ss. pairwise (differ key) ss ≡ true) p ps
     (λ t. pairwise-cons (differ key) (p .slot) (slotsTaken ps) (each-tested (differ key (p .slot)) ps (others-differ key p ps h t)) rest) rest
 

@@ -1,4 +1,12 @@
-// One resource record: an address with its eight slots, and its 4,096 bytes of the store. The definitions stand in specs/.
+// One resource record: an address with its eight slots, and its 4,096 bytes of the store.
+pub mod address;
+pub mod after;
+pub mod freed;
+pub mod map;
+pub mod packages;
+pub mod slots;
+pub mod sound;
+pub mod store;
 
 // A slot: package, tag, end clock, body length, and the success number that last set its body.
 pub struct Slot {

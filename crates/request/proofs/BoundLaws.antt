@@ -140,8 +140,17 @@ module _ (s : List ℕ) where
   unfolding linesNamed those copied
   five-short [] = omega arith
   five-short (l ∷ ls) =
-      omega (arith, named-more Via l ls, named-more From l ls, named-more To l ls, named-more Call-ID l ls, named-more CSeq l ls,
-      one-of (nameNumber (nameOf s l)) (length (wholeLine s l)), length-append (wholeLine s l) (copied s ls), five-short ls)
+      omega (
+        arith,
+        named-more Via l ls,
+        named-more From l ls,
+        named-more To l ls,
+        named-more Call-ID l ls,
+        named-more CSeq l ls,
+        one-of (nameNumber (nameOf s l)) (length (wholeLine s l)),
+        length-append (wholeLine s l) (copied s ls),
+        five-short ls,
+      )
 
   -- so the header lines that are copied are together no longer than the request
   pub copied-short : length (copied s (linesNamed Via s (linesOf s)))

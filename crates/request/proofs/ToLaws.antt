@@ -117,8 +117,13 @@ module _ (v : List ℕ) (quotes : quotesClose Outside v ≡ true) (o : ℕ) (at 
     pub value-open : length v ≤ c → toValue v ≡ Unclosed
     unfolding toValue angleCloses
     value-open k =
-        rw (quotes, opened, inner, shown-has 62 Outside (drop (o + 1) v)
-        , le-ltb (placeOf (eqb 62) (outsideQuotes Outside (drop (o + 1) v))) (length (drop (o + 1) v)) (omega (arith, length-drop (o + 1) v)))
+        rw (
+          quotes,
+          opened,
+          inner,
+          shown-has 62 Outside (drop (o + 1) v),
+          le-ltb (placeOf (eqb 62) (outsideQuotes Outside (drop (o + 1) v))) (length (drop (o + 1) v)) (omega (arith, length-drop (o + 1) v)),
+        )
 
     -- otherwise parameters are looked for behind that >
     pub value-angle : c < length v → toValue v ≡ pick (someTag (outsideQuotes Outside (drop (c + 1) v))) Tagged Untagged
@@ -126,6 +131,13 @@ module _ (v : List ℕ) (quotes : quotesClose Outside v ≡ true) (o : ℕ) (at 
     value-angle k =
         let p : ℕ = placeOf (eqb 62) (outsideQuotes Outside (drop (o + 1) v)) in
         let e : o + 1 + (p + 1) ≡ c + 1 = omega arith in
-        rw (quotes, opened, inner, shown-has 62 Outside (drop (o + 1) v)
-        , lt-ltb p (length (drop (o + 1) v)) (omega (arith, length-drop (o + 1) v))
-        , behind 62 (λ e. omega arith) Outside (drop (o + 1) v), drop-drop (p + 1) (o + 1) v, e)
+        rw (
+          quotes,
+          opened,
+          inner,
+          shown-has 62 Outside (drop (o + 1) v),
+          lt-ltb p (length (drop (o + 1) v)) (omega (arith, length-drop (o + 1) v)),
+          behind 62 (λ e. omega arith) Outside (drop (o + 1) v),
+          drop-drop (p + 1) (o + 1) v,
+          e,
+        )

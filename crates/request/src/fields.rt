@@ -1,9 +1,9 @@
 // What the fields of a request say, as the refusals ask.
-use crate::header_line;
-use crate::to;
 use crate::Head;
 use crate::Seen;
 use crate::ToValue;
+use crate::header_line;
+use crate::to;
 use text::class::Kind;
 use text::number::Num;
 ghost use mathlib.Core.Path.{_≡_};
@@ -13,13 +13,21 @@ ghost use Rattle.request.specs.Head.{methodOf, uriOf, seenAt, absent, on
 ghost use Rattle.request.specs.Fields.{isCSeq, cseqFits, there, contentLength, contentLengthFits, expires, expiresFits, isBadRequest, bodyLength, body, eventText, hasType, hasMatch, matchText, isBadMatch};
 
 const FROM: usize = 1;
+
 const TO: usize = 2;
+
 const CALL_ID: usize = 3;
+
 const CSEQ: usize = 4;
+
 const CONTENT_TYPE: usize = 5;
+
 const CONTENT_LENGTH: usize = 6;
+
 const EVENT: usize = 7;
+
 const EXPIRES: usize = 8;
+
 const SIP_IF_MATCH: usize = 9;
 
 // The method.
@@ -270,7 +278,10 @@ pub fn has_type(wanted: &[u8], s: &[u8], h: Head) -> bool
     if is_absent(h, CONTENT_TYPE) {
         return false;
     }
-    text::names::same_text(text::runs::up_to_parameter(value_named(s, h, CONTENT_TYPE)), wanted)
+    text::names::same_text(
+        text::runs::up_to_parameter(value_named(s, h, CONTENT_TYPE)),
+        wanted,
+    )
 }
 
 // Whether SIP-If-Match is given.

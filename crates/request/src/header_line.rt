@@ -1,7 +1,7 @@
 // One header line, and its parts.
-use crate::first_line;
 use crate::HeaderLine;
 use crate::Line;
+use crate::first_line;
 use text::class::Kind;
 ghost use mathlib.Core.Path.{_≡_};
 ghost use Rattle.request.specs.HeaderLines.{headerLine, nameOf, valueOf};

@@ -1,10 +1,10 @@
 // Reading a request: its first line, its header lines, the fields we read, and its body.
+pub mod fields;
 pub mod first_line;
 pub mod header_line;
 pub mod names;
-pub mod to;
 pub mod reading;
-pub mod fields;
+pub mod to;
 
 // The first line: where its method and its Request-URI end, and where the next line begins.
 pub enum FirstLine {

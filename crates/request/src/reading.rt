@@ -1,12 +1,12 @@
 // What the first line and the header lines of a request say, read in one pass.
-use crate::first_line;
-use crate::header_line;
-use crate::names;
 use crate::FirstLine;
 use crate::Head;
 use crate::HeaderLine;
 use crate::Line;
 use crate::Seen;
+use crate::first_line;
+use crate::header_line;
+use crate::names;
 ghost use mathlib.Core.Path.{_≡_};
 ghost use Rattle.request.specs.HeaderLines.{headerLines};
 ghost use Rattle.request.specs.Head.{zeroSeen, notBuilt, withHeaders, headOf};

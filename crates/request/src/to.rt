@@ -17,12 +17,20 @@ fn next_quote(q: Quote, b: u8) -> Quote
     ensures { λ r. ⌜ r ≡ nextQuote q b ⌝ }
 {
     match q {
-        Quote::Outside => if b == 34 { Quote::Inside } else { Quote::Outside },
+        Quote::Outside => if b == 34 {
+            Quote::Inside
+        } else {
+            Quote::Outside
+        },
         Quote::Inside => {
             if b == 34 {
                 return Quote::Outside;
             }
-            if b == 92 { Quote::Covered } else { Quote::Inside }
+            if b == 92 {
+                Quote::Covered
+            } else {
+                Quote::Inside
+            }
         }
         Quote::Covered => Quote::Inside,
     }

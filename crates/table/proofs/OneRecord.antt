@@ -19,7 +19,7 @@ use Rattle.request.specs.Fields.{body}
 use Rattle.record.specs.Places.{isWhole, emptyRecord}
 use Rattle.record.specs.Store.{partAt, partOf, withPart}
 use Rattle.record.specs.declared.Record.{Record}
-use Rattle.record.proofs.Store.{partAfter-length, whole-slots}
+use Rattle.record.proofs.StoreLaws.{partAfter-length, whole-slots}
 use Rattle.publish.specs.Outcomes.{isSuccess}
 use Rattle.publish.specs.Refusals.{Case, isBadSize, refusals, sizeRows, requestRows, readingRows, addressRows, contentRows, roomRows, outcomeOf}
 use Rattle.publish.specs.Step.{successOf, ownAfter, partAfterwards}

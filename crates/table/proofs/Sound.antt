@@ -13,7 +13,7 @@ use Rattle.record.specs.Places.{emptyRecord, occupied, places, placesIn, slotsO
 use Rattle.record.specs.Address.{isAddress, addressOf, sameAddress, isFor}
 use Rattle.record.specs.Sound.{slotsDiffer, isSound, addressesDiffer, allSound}
 use Rattle.record.specs.declared.Record.{Record}
-use Rattle.record.proofs.Address.{address-of, has-address}
+use Rattle.record.proofs.AddressLaws.{address-of, has-address}
 use Rattle.table.specs.Table.{Table, badSize, placeFor, isKnown, withRecord}
 use Rattle.table.specs.Open.{opened, openRefusals, emptied}
 use Rattle.table.specs.Add.{Entry, added, addRefusals, lowestUnused, freshRecord}

@@ -6,7 +6,24 @@ ghost use lib.ListN.{length};
 ghost use Rattle.laws.specs.Wrote.{Wrote};
 ghost use Rattle.text.specs.Digits.{hexDigit, hexDigits, eightHex, decimalDigits, decimalOf};
 
-const DIGITS: [u8; 16] = [48, 49, 50, 51, 52, 53, 54, 55, 56, 57, 97, 98, 99, 100, 101, 102];
+const DIGITS: [u8; 16] = [
+    48,
+    49,
+    50,
+    51,
+    52,
+    53,
+    54,
+    55,
+    56,
+    57,
+    97,
+    98,
+    99,
+    100,
+    101,
+    102,
+];
 
 // The digit of a number below 16.
 pub fn digit(n: u64) -> u8

@@ -27,14 +27,22 @@ enum-told c = search needs
 returns-2 : tie.Need-returns-2
 unfolding bodyLength valueOr
 returns-2 c =
-    rw (← c .before .before .before .before .is-absent .ensures, c .before .before .before .if1 .left,
-    ← c .before .before .content-length .ensures, c .enum-told .given .1)
+    rw (
+      ← c .before .before .before .before .is-absent .ensures,
+      c .before .before .before .if1 .left,
+      ← c .before .before .content-length .ensures,
+      c .enum-told .given .1,
+    )
 
 returns-3 : tie.Need-returns-3
 unfolding bodyLength valueOr
 returns-3 c =
-    rw (← c .before .before .before .before .before .is-absent .ensures, c .before .before .before .before .if1 .left,
-    ← c .before .before .before .content-length .ensures, c .before .n .given .1)
+    rw (
+      ← c .before .before .before .before .before .is-absent .ensures,
+      c .before .before .before .before .if1 .left,
+      ← c .before .before .before .content-length .ensures,
+      c .before .n .given .1,
+    )
 
 pub body-length-spec : {M : Type 1} → statement M
 body-length-spec =

@@ -24,8 +24,11 @@ returns c = sym (body-none _ _ (c .before .if1 .taken))
 
 add-e : tie.Need-add-e
 add-e c =
-    omega (arith, c .before .body-length .ensures,
-    body-ends (c .before .before .before .args .s .now) (c .before .before .before .args .h) (c .if1 .left))
+    omega (
+      arith,
+      c .before .body-length .ensures,
+      body-ends (c .before .before .before .args .s .now) (c .before .before .before .args .h) (c .if1 .left),
+    )
 
 part-of-requires : tie.Need-part-of-requires
 part-of-requires c κs = search needs

@@ -17,8 +17,12 @@ is-absent-requires c κs = search needs
 returns-2 : tie.Need-returns-2
 unfolding contentLengthFits
 returns-2 c =
-    rw (← c .before .before .before .is-repeated .ensures, c .before .before .if1 .left, ← c .before .is-absent .ensures,
-    c .if2 .taken)
+    rw (
+      ← c .before .before .before .is-repeated .ensures,
+      c .before .before .if1 .left,
+      ← c .before .is-absent .ensures,
+      c .if2 .taken,
+    )
 
 content-length-requires : tie.Need-content-length-requires
 content-length-requires c κs = search needs
@@ -29,9 +33,13 @@ is-fit-requires c κs = search needs
 returns-3 : tie.Need-returns-3
 unfolding contentLengthFits
 returns-3 c =
-    rw (← c .before .before .before .before .before .is-repeated .ensures, c .before .before .before .before .if1 .left,
-    ← c .before .before .before .is-absent .ensures, c .before .before .if2 .left,
-    ← c .before .content-length .ensures) (c .is-fit .ensures)
+    rw (
+      ← c .before .before .before .before .before .is-repeated .ensures,
+      c .before .before .before .before .if1 .left,
+      ← c .before .before .before .is-absent .ensures,
+      c .before .before .if2 .left,
+      ← c .before .content-length .ensures,
+    ) (c .is-fit .ensures)
 
 pub content-length-fits-spec : {M : Type 1} → statement M
 content-length-fits-spec =

@@ -17,8 +17,12 @@ is-absent-requires c κs = search needs
 returns-2 : tie.Need-returns-2
 unfolding expiresFits
 returns-2 c =
-    rw (← c .before .before .before .is-repeated .ensures, c .before .before .if1 .left, ← c .before .is-absent .ensures,
-    c .if2 .taken)
+    rw (
+      ← c .before .before .before .is-repeated .ensures,
+      c .before .before .if1 .left,
+      ← c .before .is-absent .ensures,
+      c .if2 .taken,
+    )
 
 expires-of-requires : tie.Need-expires-of-requires
 expires-of-requires c κs = search needs
@@ -29,9 +33,13 @@ is-fit-requires c κs = search needs
 returns-3 : tie.Need-returns-3
 unfolding expiresFits
 returns-3 c =
-    rw (← c .before .before .before .before .before .is-repeated .ensures, c .before .before .before .before .if1 .left,
-    ← c .before .before .before .is-absent .ensures, c .before .before .if2 .left,
-    ← c .before .expires-of .ensures) (c .is-fit .ensures)
+    rw (
+      ← c .before .before .before .before .before .is-repeated .ensures,
+      c .before .before .before .before .if1 .left,
+      ← c .before .before .before .is-absent .ensures,
+      c .before .before .if2 .left,
+      ← c .before .expires-of .ensures,
+    ) (c .is-fit .ensures)
 
 pub expires-fits-spec : {M : Type 1} → statement M
 expires-fits-spec =

@@ -23,8 +23,12 @@ same-text-requires c κs = search needs
 returns-2 : tie.Need-returns-2
 unfolding hasType
 returns-2 c =
-    rw (← c .before .before .before .before .is-absent .ensures, c .before .before .before .if1 .left,
-    ← c .before .before .value-named .ensures, ← c .before .up-to-parameter .ensures) (c .same-text .ensures)
+    rw (
+      ← c .before .before .before .before .is-absent .ensures,
+      c .before .before .before .if1 .left,
+      ← c .before .before .value-named .ensures,
+      ← c .before .up-to-parameter .ensures,
+    ) (c .same-text .ensures)
 
 pub has-type-spec : {M : Type 1} → statement M
 has-type-spec =

@@ -18,8 +18,11 @@ is-repeated-requires c κs = search needs
 returns-2 : tie.Need-returns-2
 unfolding isBadMatch
 returns-2 c =
-    rw (turned-holds (c .before .before .before .has-match .ensures) (c .before .before .if1 .left),
-    ← c .before .is-repeated .ensures, c .if2 .taken)
+    rw (
+      turned-holds (c .before .before .before .has-match .ensures) (c .before .before .if1 .left),
+      ← c .before .is-repeated .ensures,
+      c .if2 .taken,
+    )
 
 match-text-requires : tie.Need-match-text-requires
 match-text-requires c κs = search needs
@@ -30,10 +33,14 @@ is-one-token-requires c κs = search needs
 returns-3 : tie.Need-returns-3
 unfolding isBadMatch
 returns-3 c =
-    rw (turned-holds (c .before .before .before .before .before .has-match .ensures)
-    (c .before .before .before .before .if1 .left),
-    ← c .before .before .before .is-repeated .ensures, c .before .before .if2 .left, ← c .before .match-text .ensures,
-    c .is-one-token .ensures)
+    rw (
+      turned-holds (c .before .before .before .before .before .has-match .ensures)
+          (c .before .before .before .before .if1 .left),
+      ← c .before .before .before .is-repeated .ensures,
+      c .before .before .if2 .left,
+      ← c .before .match-text .ensures,
+      c .is-one-token .ensures,
+    )
 
 pub is-bad-match-spec : {M : Type 1} → statement M
 is-bad-match-spec =

@@ -18,8 +18,10 @@ content-length-fits-requires c κs = search needs
 returns-2 : tie.Need-returns-2
 unfolding isBadRequest
 returns-2 c =
-    rw (turned-holds (c .before .before .before .cseq-fits .ensures) (c .before .before .if1 .left),
-    turned-fails (c .before .content-length-fits .ensures) (c .if2 .taken))
+    rw (
+      turned-holds (c .before .before .before .cseq-fits .ensures) (c .before .before .if1 .left),
+      turned-fails (c .before .content-length-fits .ensures) (c .if2 .taken),
+    )
 
 expires-fits-requires : tie.Need-expires-fits-requires
 expires-fits-requires c κs = search needs
@@ -27,10 +29,12 @@ expires-fits-requires c κs = search needs
 returns-3 : tie.Need-returns-3
 unfolding isBadRequest
 returns-3 c =
-    rw (turned-holds (c .before .before .before .before .before .cseq-fits .ensures)
-    (c .before .before .before .before .if1 .left),
-    turned-holds (c .before .before .before .content-length-fits .ensures) (c .before .before .if2 .left),
-    turned-fails (c .before .expires-fits .ensures) (c .if3 .taken))
+    rw (
+      turned-holds (c .before .before .before .before .before .cseq-fits .ensures)
+          (c .before .before .before .before .if1 .left),
+      turned-holds (c .before .before .before .content-length-fits .ensures) (c .before .before .if2 .left),
+      turned-fails (c .before .expires-fits .ensures) (c .if3 .taken),
+    )
 
 is-repeated-requires : tie.Need-is-repeated-requires
 is-repeated-requires c κs = search needs
@@ -38,12 +42,15 @@ is-repeated-requires c κs = search needs
 returns-4 : tie.Need-returns-4
 unfolding isBadRequest
 returns-4 c =
-    rw (turned-holds (c .before .before .before .before .before .before .before .cseq-fits .ensures)
-    (c .before .before .before .before .before .before .if1 .left),
-    turned-holds (c .before .before .before .before .before .content-length-fits .ensures)
-    (c .before .before .before .before .if2 .left),
-    turned-holds (c .before .before .before .expires-fits .ensures) (c .before .before .if3 .left),
-    ← c .before .is-repeated .ensures, c .if4 .taken)
+    rw (
+      turned-holds (c .before .before .before .before .before .before .before .cseq-fits .ensures)
+          (c .before .before .before .before .before .before .if1 .left),
+      turned-holds (c .before .before .before .before .before .content-length-fits .ensures)
+          (c .before .before .before .before .if2 .left),
+      turned-holds (c .before .before .before .expires-fits .ensures) (c .before .before .if3 .left),
+      ← c .before .is-repeated .ensures,
+      c .if4 .taken,
+    )
 
 is-repeated-requires-2 : tie.Need-is-repeated-requires-2
 is-repeated-requires-2 c κs = search needs
@@ -51,12 +58,15 @@ is-repeated-requires-2 c κs = search needs
 returns-5 : tie.Need-returns-5
 unfolding isBadRequest
 returns-5 c =
-    rw (turned-holds (c .before .before .before .before .before .before .before .before .cseq-fits .ensures)
-    (c .before .before .before .before .before .before .before .if1 .left),
-    turned-holds (c .before .before .before .before .before .before .content-length-fits .ensures)
-    (c .before .before .before .before .before .if2 .left),
-    turned-holds (c .before .before .before .before .expires-fits .ensures) (c .before .before .before .if3 .left),
-    ← c .before .before .is-repeated .ensures, c .before .if4 .left) (c .is-repeated2 .ensures)
+    rw (
+      turned-holds (c .before .before .before .before .before .before .before .before .cseq-fits .ensures)
+          (c .before .before .before .before .before .before .before .if1 .left),
+      turned-holds (c .before .before .before .before .before .before .content-length-fits .ensures)
+          (c .before .before .before .before .before .if2 .left),
+      turned-holds (c .before .before .before .before .expires-fits .ensures) (c .before .before .before .if3 .left),
+      ← c .before .before .is-repeated .ensures,
+      c .before .if4 .left,
+    ) (c .is-repeated2 .ensures)
 
 pub is-bad-request-spec : {M : Type 1} → statement M
 is-bad-request-spec =

@@ -26,16 +26,22 @@ is-fit-requires c κs = search needs
 
 returns : tie.Need-returns
 returns c =
-    rw (cseq-is _ _ _ (c .before .before .before .before .before .past-kind .ensures)
-    (c .before .before .before .before .past-kind2 .ensures),
-    ← c .before .before .number .ensures, turned-fails (c .before .is-fit .ensures) (c .if1 .taken))
+    rw (
+      cseq-is _ _ _ (c .before .before .before .before .before .past-kind .ensures)
+          (c .before .before .before .before .past-kind2 .ensures),
+      ← c .before .before .number .ensures,
+      turned-fails (c .before .is-fit .ensures) (c .if1 .taken),
+    )
 
 returns-2 : tie.Need-returns-2
 returns-2 c =
-    rw (cseq-is _ _ _ (c .before .before .before .before .before .before .past-kind .ensures)
-    (c .before .before .before .before .before .past-kind2 .ensures),
-    ← c .before .before .before .number .ensures, turned-holds (c .before .before .is-fit .ensures) (c .before .if1 .left),
-    le-ltb _ _ (c .if2 .taken))
+    rw (
+      cseq-is _ _ _ (c .before .before .before .before .before .before .past-kind .ensures)
+          (c .before .before .before .before .before .past-kind2 .ensures),
+      ← c .before .before .before .number .ensures,
+      turned-holds (c .before .before .is-fit .ensures) (c .before .if1 .left),
+      le-ltb _ _ (c .if2 .taken),
+    )
 
 sub-are-same : tie.Need-sub-are-same
 sub-are-same c =
@@ -53,11 +59,14 @@ are-same-requires c κs = search needs
 
 returns-3 : tie.Need-returns-3
 returns-3 c =
-    rw (cseq-is _ _ _ (c .before .before .before .before .before .before .before .before .past-kind .ensures)
-    (c .before .before .before .before .before .before .before .past-kind2 .ensures),
-    ← c .before .before .before .before .before .number .ensures,
-    turned-holds (c .before .before .before .before .is-fit .ensures) (c .before .before .before .if1 .left),
-    lt-ltb _ _ (c .before .before .if2 .left), ← rest-all) (c .are-same .ensures)
+    rw (
+      cseq-is _ _ _ (c .before .before .before .before .before .before .before .before .past-kind .ensures)
+          (c .before .before .before .before .before .before .before .past-kind2 .ensures),
+      ← c .before .before .before .before .before .number .ensures,
+      turned-holds (c .before .before .before .before .is-fit .ensures) (c .before .before .before .if1 .left),
+      lt-ltb _ _ (c .before .before .if2 .left),
+      ← rest-all,
+    ) (c .are-same .ensures)
 
 pub is-cseq-spec : {M : Type 1} → statement M
 is-cseq-spec =

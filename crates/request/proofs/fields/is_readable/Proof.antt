@@ -16,8 +16,10 @@ stand-as-they-must-requires c κs = search needs
 returns-2 : tie.Need-returns-2
 unfolding isReadable
 returns-2 c =
-    rw (turned-fails (c .before .stand-as-they-must .ensures) (c .if2 .taken),
-    not-false (c .before .before .before .before .before .args .h .built) (c .before .before .if1 .left))
+    rw (
+      turned-fails (c .before .stand-as-they-must .ensures) (c .if2 .taken),
+      not-false (c .before .before .before .before .before .args .h .built) (c .before .before .if1 .left),
+    )
 
 value-named-requires : tie.Need-value-named-requires
 value-named-requires c κs = search needs
@@ -31,10 +33,13 @@ is-closed-requires c κs = search needs
 returns-3 : tie.Need-returns-3
 unfolding isReadable
 returns-3 c =
-    rw (turned-holds (c .before .before .before .before .stand-as-they-must .ensures) (c .before .before .before .if2 .left),
-    ← c .before .before .value-named .ensures, ← c .before .to-value .ensures,
-    not-false (c .before .before .before .before .before .before .before .before .args .h .built)
-    (c .before .before .before .before .before .if1 .left)) (c .is-closed .ensures)
+    rw (
+      turned-holds (c .before .before .before .before .stand-as-they-must .ensures) (c .before .before .before .if2 .left),
+      ← c .before .before .value-named .ensures,
+      ← c .before .to-value .ensures,
+      not-false (c .before .before .before .before .before .before .before .before .args .h .built)
+          (c .before .before .before .before .before .if1 .left),
+    ) (c .is-closed .ensures)
 
 pub is-readable-spec : {M : Type 1} → statement M
 is-readable-spec =

@@ -18,8 +18,11 @@ is-once-requires c κs = search needs
 returns-2 : tie.Need-returns-2
 unfolding standAsTheyMust
 returns-2 c =
-    rw (← c .before .before .before .is-absent .ensures, c .before .before .if1 .left,
-    turned-fails (c .before .is-once .ensures) (c .if2 .taken))
+    rw (
+      ← c .before .before .before .is-absent .ensures,
+      c .before .before .if1 .left,
+      turned-fails (c .before .is-once .ensures) (c .if2 .taken),
+    )
 
 is-once-requires-2 : tie.Need-is-once-requires-2
 is-once-requires-2 c κs = search needs
@@ -27,9 +30,12 @@ is-once-requires-2 c κs = search needs
 returns-3 : tie.Need-returns-3
 unfolding standAsTheyMust
 returns-3 c =
-    rw (← c .before .before .before .before .before .is-absent .ensures, c .before .before .before .before .if1 .left,
-    turned-holds (c .before .before .before .is-once .ensures) (c .before .before .if2 .left),
-    turned-fails (c .before .is-once2 .ensures) (c .if3 .taken))
+    rw (
+      ← c .before .before .before .before .before .is-absent .ensures,
+      c .before .before .before .before .if1 .left,
+      turned-holds (c .before .before .before .is-once .ensures) (c .before .before .if2 .left),
+      turned-fails (c .before .is-once2 .ensures) (c .if3 .taken),
+    )
 
 is-once-requires-3 : tie.Need-is-once-requires-3
 is-once-requires-3 c κs = search needs
@@ -37,11 +43,13 @@ is-once-requires-3 c κs = search needs
 returns-4 : tie.Need-returns-4
 unfolding standAsTheyMust
 returns-4 c =
-    rw (← c .before .before .before .before .before .before .before .is-absent .ensures,
-    c .before .before .before .before .before .before .if1 .left,
-    turned-holds (c .before .before .before .before .before .is-once .ensures) (c .before .before .before .before .if2 .left),
-    turned-holds (c .before .before .before .is-once2 .ensures) (c .before .before .if3 .left),
-    turned-fails (c .before .is-once3 .ensures) (c .if4 .taken))
+    rw (
+      ← c .before .before .before .before .before .before .before .is-absent .ensures,
+      c .before .before .before .before .before .before .if1 .left,
+      turned-holds (c .before .before .before .before .before .is-once .ensures) (c .before .before .before .before .if2 .left),
+      turned-holds (c .before .before .before .is-once2 .ensures) (c .before .before .if3 .left),
+      turned-fails (c .before .is-once3 .ensures) (c .if4 .taken),
+    )
 
 is-once-requires-4 : tie.Need-is-once-requires-4
 is-once-requires-4 c κs = search needs
@@ -49,12 +57,14 @@ is-once-requires-4 c κs = search needs
 returns-5 : tie.Need-returns-5
 unfolding standAsTheyMust
 returns-5 c =
-    rw (← c .before .before .before .before .before .before .before .before .is-absent .ensures,
-    c .before .before .before .before .before .before .before .if1 .left,
-    turned-holds (c .before .before .before .before .before .before .is-once .ensures)
-    (c .before .before .before .before .before .if2 .left),
-    turned-holds (c .before .before .before .before .is-once2 .ensures) (c .before .before .before .if3 .left),
-    turned-holds (c .before .before .is-once3 .ensures) (c .before .if4 .left)) (c .is-once4 .ensures)
+    rw (
+      ← c .before .before .before .before .before .before .before .before .is-absent .ensures,
+      c .before .before .before .before .before .before .before .if1 .left,
+      turned-holds (c .before .before .before .before .before .before .is-once .ensures)
+          (c .before .before .before .before .before .if2 .left),
+      turned-holds (c .before .before .before .before .is-once2 .ensures) (c .before .before .before .if3 .left),
+      turned-holds (c .before .before .is-once3 .ensures) (c .before .if4 .left),
+    ) (c .is-once4 .ensures)
 
 pub stand-as-they-must-spec : {M : Type 1} → statement M
 stand-as-they-must-spec =

@@ -70,9 +70,16 @@ returns-6 c =
     let f = g .before .before in
     let e = f .before .before in
     first-read _ _ _ (e .before .before .past-kind .ensures) (f .past-kind2 .ensures)
-    (rw (lt-ltb 0 (e .before .before .past-kind .result) (omega (arith, e .before .if1 .left)), ← e .byte-at .ensures, eq-eqb _ _ (f .before .if2 .left),
-    lt-ltb _ _ (g .before .if3 .left), ← g .byte-at2 .ensures, eq-eqb _ _ (c .before .before .if4 .left),
-    ← c .before .version-at .ensures, not-false (c .before .version-at .result) (c .if5 .left)))
+    (rw (
+      lt-ltb 0 (e .before .before .past-kind .result) (omega (arith, e .before .if1 .left)),
+      ← e .byte-at .ensures,
+      eq-eqb _ _ (f .before .if2 .left),
+      lt-ltb _ _ (g .before .if3 .left),
+      ← g .byte-at2 .ensures,
+      eq-eqb _ _ (c .before .before .if4 .left),
+      ← c .before .version-at .ensures,
+      not-false (c .before .version-at .result) (c .if5 .left),
+    ))
 
 pub first-line-spec : {M : Type 1} → statement M
 first-line-spec =

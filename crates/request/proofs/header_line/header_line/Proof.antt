@@ -49,8 +49,13 @@ returns-4 c =
     let g = c .before .before in
     let f = g .before .before .before in
     header-read _ _ _ _ _ (f .before .before .past-kind .ensures) (f .past-kind2 .ensures) (g .past-kind3 .ensures)
-    (rw (lt-ltb _ _ (f .before .if1 .left), ← g .before .before .byte-at .ensures, eq-eqb _ _ (g .before .if2 .left),
-    ← c .before .crlf-at .ensures, not-false (c .before .crlf-at .result) (c .if3 .left)))
+    (rw (
+      lt-ltb _ _ (f .before .if1 .left),
+      ← g .before .before .byte-at .ensures,
+      eq-eqb _ _ (g .before .if2 .left),
+      ← c .before .crlf-at .ensures,
+      not-false (c .before .crlf-at .result) (c .if3 .left),
+    ))
 
 pub header-line-spec : {M : Type 1} → statement M
 header-line-spec =

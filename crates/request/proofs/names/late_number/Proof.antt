@@ -62,8 +62,16 @@ returns-4 c =
     let h = c .before .before .before in
     let g = h .before .before .before .before in
     let f = g .before .before .before .before in
-    rw (← f .before .spells .ensures, f .if1 .left, ← g .before .spells2 .ensures, g .if2 .left, ← h .before .spells3 .ensures, h .if3 .left,
-    ← named-one _ _ _ (c .before .same-text .ensures), c .if4 .taken)
+    rw (
+      ← f .before .spells .ensures,
+      f .if1 .left,
+      ← g .before .spells2 .ensures,
+      g .if2 .left,
+      ← h .before .spells3 .ensures,
+      h .if3 .left,
+      ← named-one _ _ _ (c .before .same-text .ensures),
+      c .if4 .taken,
+    )
 
 slice-aggregate-same-text-2 : tie.Need-slice-aggregate-same-text-2
 slice-aggregate-same-text-2 c = search needs
@@ -78,8 +86,18 @@ returns-5 c =
     let h = k .before .before .before in
     let g = h .before .before .before .before in
     let f = g .before .before .before .before in
-    rw (← f .before .spells .ensures, f .if1 .left, ← g .before .spells2 .ensures, g .if2 .left, ← h .before .spells3 .ensures, h .if3 .left,
-    ← named-one _ _ _ (k .before .same-text .ensures), k .if4 .left, ← named-one _ _ _ (c .before .same-text2 .ensures), c .if5 .taken)
+    rw (
+      ← f .before .spells .ensures,
+      f .if1 .left,
+      ← g .before .spells2 .ensures,
+      g .if2 .left,
+      ← h .before .spells3 .ensures,
+      h .if3 .left,
+      ← named-one _ _ _ (k .before .same-text .ensures),
+      k .if4 .left,
+      ← named-one _ _ _ (c .before .same-text2 .ensures),
+      c .if5 .taken,
+    )
 
 returns-6 : tie.Need-returns-6
 unfolding placeOf spellings
@@ -88,8 +106,18 @@ returns-6 c =
     let h = k .before .before .before in
     let g = h .before .before .before .before in
     let f = g .before .before .before .before in
-    rw (← f .before .spells .ensures, f .if1 .left, ← g .before .spells2 .ensures, g .if2 .left, ← h .before .spells3 .ensures, h .if3 .left,
-    ← named-one _ _ _ (k .before .same-text .ensures), k .if4 .left, ← named-one _ _ _ (c .before .same-text2 .ensures), c .if5 .left)
+    rw (
+      ← f .before .spells .ensures,
+      f .if1 .left,
+      ← g .before .spells2 .ensures,
+      g .if2 .left,
+      ← h .before .spells3 .ensures,
+      h .if3 .left,
+      ← named-one _ _ _ (k .before .same-text .ensures),
+      k .if4 .left,
+      ← named-one _ _ _ (c .before .same-text2 .ensures),
+      c .if5 .left,
+    )
 
 pub late-number-spec : {M : Type 1} → statement M
 late-number-spec =

@@ -66,8 +66,16 @@ returns-4 c =
     let h = c .before .before .before .before in
     let g = h .before .before .before .before in
     let f = g .before .before .before .before in
-    rw (← f .before .spells .ensures, f .if1 .left, ← g .before .spells2 .ensures, g .if2 .left, ← h .before .spells3 .ensures, h .if3 .left,
-    ← c .before .spells4 .ensures, c .if4 .taken)
+    rw (
+      ← f .before .spells .ensures,
+      f .if1 .left,
+      ← g .before .spells2 .ensures,
+      g .if2 .left,
+      ← h .before .spells3 .ensures,
+      h .if3 .left,
+      ← c .before .spells4 .ensures,
+      c .if4 .taken,
+    )
 
 slice-aggregate-same-text : tie.Need-slice-aggregate-same-text
 slice-aggregate-same-text c = search needs
@@ -82,8 +90,18 @@ returns-5 c =
     let h = k .before .before .before .before in
     let g = h .before .before .before .before in
     let f = g .before .before .before .before in
-    rw (← f .before .spells .ensures, f .if1 .left, ← g .before .spells2 .ensures, g .if2 .left, ← h .before .spells3 .ensures, h .if3 .left,
-    ← k .before .spells4 .ensures, k .if4 .left, ← named-one _ _ _ (c .before .same-text .ensures), c .if5 .taken)
+    rw (
+      ← f .before .spells .ensures,
+      f .if1 .left,
+      ← g .before .spells2 .ensures,
+      g .if2 .left,
+      ← h .before .spells3 .ensures,
+      h .if3 .left,
+      ← k .before .spells4 .ensures,
+      k .if4 .left,
+      ← named-one _ _ _ (c .before .same-text .ensures),
+      c .if5 .taken,
+    )
 
 late-number-requires : tie.Need-late-number-requires
 late-number-requires c κs = search needs
@@ -99,8 +117,19 @@ returns-6 c =
     let h = k .before .before .before .before in
     let g = h .before .before .before .before in
     let f = g .before .before .before .before in
-    rw (← f .before .spells .ensures, f .if1 .left, ← g .before .spells2 .ensures, g .if2 .left, ← h .before .spells3 .ensures, h .if3 .left,
-    ← k .before .spells4 .ensures, k .if4 .left, ← named-one _ _ _ (l .before .same-text .ensures), l .if5 .left, ← c .late-number .ensures) (omega arith)
+    rw (
+      ← f .before .spells .ensures,
+      f .if1 .left,
+      ← g .before .spells2 .ensures,
+      g .if2 .left,
+      ← h .before .spells3 .ensures,
+      h .if3 .left,
+      ← k .before .spells4 .ensures,
+      k .if4 .left,
+      ← named-one _ _ _ (l .before .same-text .ensures),
+      l .if5 .left,
+      ← c .late-number .ensures,
+    ) (omega arith)
 
 pub name-number-spec : {M : Type 1} → statement M
 name-number-spec =

@@ -77,9 +77,11 @@ loop-again : tie.Need-loop-again Inv-loop μ-loop
 loop-again c =
     let w = c .before .before in
     let d = w .before .before in
-    let l = d .before .before in
-    (search needs, l .before .loop .inv .1
-    ∙ number-on _ _ _ _ (l .loop-test .taken) _ (d .is-digit .ensures) (w .before .if2 .left) _ (w .wide .ensures))
+    let l = d .before .before in (
+      search needs,
+      l .before .loop .inv .1
+          ∙ number-on _ _ _ _ (l .loop-test .taken) _ (d .is-digit .ensures) (w .before .if2 .left) _ (w .wide .ensures),
+    )
 
 returns-5 : tie.Need-returns-5 Inv-loop μ-loop
 returns-5 c = sym (c .before .loop .inv .1 ∙ number-end _ _ _ _ (c .loop-test .left) (c .before .loop .inv .0))
