@@ -1,4 +1,10 @@
-// One request for one address: the refusals in their order, a success, and the message. The definitions stand in specs/.
+// One request for one address: the refusals in their order, a success, and the message.
+pub mod echoed;
+pub mod message;
+pub mod own_fields;
+pub mod refusals;
+pub mod status_line;
+pub mod times;
 
 // The field that a refusal's message carries: none, or one of the table's with its value.
 pub enum Field {

@@ -1,0 +1,35 @@
+-- The rows are tried in their order, and the first that applies is the answer.
+use mathlib.Core.Path.{sym, _∙_}
+use borrow.Author.Tests.{eq-eqb, ne-eqb}
+use borrow.Author.Needs.{needs}
+use Rattle.laws.specs.First.{firstOf}
+use Rattle.publish.specs.Refusals.{roomRows}
+use Rattle.publish.proofs.refusals.room_refusal.Statement.{statement}
+use Rattle.publish.proofs.refusals.room_refusal.Tie as tie
+
+returns : tie.Need-returns
+unfolding roomRows firstOf
+returns c = rw (eq-eqb _ _ (c .if1 .taken))
+
+is-full-requires : tie.Need-is-full-requires
+is-full-requires c κs = search needs
+
+retry-after-requires : tie.Need-retry-after-requires
+retry-after-requires c κs = search needs
+
+returns-2 : tie.Need-returns-2
+unfolding roomRows firstOf
+returns-2 c =
+    rw (
+      ne-eqb _ _ (c .before .before .before .if1 .left),
+      sym (c .before .before .is-full .ensures) ∙ c .before .if2 .taken,
+      c .retry-after .ensures,
+    )
+
+returns-3 : tie.Need-returns-3
+unfolding roomRows firstOf
+returns-3 c = rw (ne-eqb _ _ (c .before .before .if1 .left), sym (c .before .is-full .ensures) ∙ c .if2 .left)
+
+pub room-refusal-spec : {M : Type 1} → statement M
+room-refusal-spec =
+    tie.close (tie.spec returns is-full-requires retry-after-requires returns-2 returns-3)
