@@ -2,8 +2,8 @@
 use Prim.Native.Nat.{_-_, _≤_}
 use lib.ListN.{length}
 use borrow.Author.Needs.{needs}
-use Rattle.lives.proofs.checksum.Statement.{statement}
-use Rattle.lives.proofs.checksum.Tie as tie
+use Rattle.lives.proofs.show.checksum.Statement.{statement}
+use Rattle.lives.proofs.show.checksum.Tie as tie
 
 abbrev Inv-loop : tie.InvT-loop
 Inv-loop bs sum₀ i₀ sum i = i ≤ length bs

@@ -4,8 +4,8 @@ use Prim.Native.Nat.{_-_, _≤_}
 use lib.ListN.{length}
 use Rattle.record.proofs.Held.{held-slots}
 use borrow.Author.Needs.{needs}
-use Rattle.lives.proofs.put_slots.Statement.{statement}
-use Rattle.lives.proofs.put_slots.Tie as tie
+use Rattle.lives.proofs.show.put_slots.Statement.{statement}
+use Rattle.lives.proofs.show.put_slots.Tie as tie
 
 abbrev Inv-loop : tie.InvT-loop
 Inv-loop out₀ at slots m₀ p₀ j₀ out m p j = (j ≤ 8) × (length slots ≡ 8) × (length out ≡ length out₀)

@@ -4,8 +4,8 @@ use native.Mathlib.Omega.{arith}
 use borrow.Author.Tests.{ltb-true, not-false}
 use borrow.Author.Needs.{needs}
 use Rattle.record.specs.After.{writtenSlot}
-use Rattle.lives.proofs.with_room.Statement.{statement}
-use Rattle.lives.proofs.with_room.Tie as tie
+use Rattle.lives.proofs.publication.with_room.Statement.{statement}
+use Rattle.lives.proofs.publication.with_room.Tie as tie
 
 returns : tie.Need-returns
 returns c = search needs

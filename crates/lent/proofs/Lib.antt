@@ -1,0 +1,2 @@
+pub mod Rec
+pub mod SixteenLaws
