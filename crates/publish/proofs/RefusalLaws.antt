@@ -5,14 +5,12 @@ use mathlib.Core.List.{List, [], _++_, append-nil}
 use Prim.Native.Nat.{ℕ, _≤_}
 use native.Mathlib.Omega.{arith}
 use lib.Dec.{leb, ltb}
-use lib.ListN.{List·getD-eq-default}
 use borrow.Author.Tests.{lt-ltb, le-ltb, le-leb, lt-leb, ltb-true, ltb-false}
 use Rattle.laws.specs.Lists.{every}
 use Rattle.laws.specs.First.{Row, firstOf}
 use Rattle.laws.proofs.Tests.{turned-fails, turned-holds}
 use Rattle.laws.proofs.Rows.{front-decides, rest-decides}
 use Rattle.request.specs.declared.Head.{Head}
-use Rattle.record.specs.Packages.{Package, packages, packageAt}
 use Rattle.record.specs.declared.Record.{Record}
 use Rattle.publish.specs.Outcomes.{isSuccess}
 use Rattle.publish.specs.Refusals.{readingRows, addressRows, contentRows, roomRows}
@@ -77,8 +75,3 @@ at-least a b = go (ltb b a) refl
     go : (t : Bool) → ltb b a ≡ t → leb a b ≡ not t
     go true e = lt-leb a b (ltb-true b a e)
     go false e = le-leb a b (ltb-false b a e)
-
--- a package that is not listed has no type
-pub no-type : (event : ℕ) → 3 ≤ event → packageAt event .type ≡ []
-unfolding packageAt packages
-no-type event h = ap (λ (p : Package). p .type) (List·getD-eq-default packages _ h)

@@ -142,16 +142,13 @@ fn is_too_brief(s: &[u8], h: Head) -> bool
 fn has_type_of(event: u8, s: &[u8], h: Head) -> bool
     ensures { λ r. ⌜ r ≡ hasType (packageAt event .type) (now (s .entry)) h ⌝ }
 {
-    if event == 0 {
-        return fields::has_type(b"application/pidf+xml", s, h);
+    if fields::is_absent(h, 5) {
+        return false;
     }
-    if event == 1 {
-        return fields::has_type(b"application/simple-message-summary", s, h);
-    }
-    if event == 2 {
-        return fields::has_type(b"application/dialog-info+xml", s, h);
-    }
-    fields::has_type(b"", s, h)
+    record::packages::is_type_of(
+        event,
+        text::runs::up_to_parameter(fields::value_named(s, h, 5)),
+    )
 }
 
 // Whether there is a body and its content type is absent or another.

@@ -1,5 +1,6 @@
 // The packages: constant arrays by package number.
 ghost use mathlib.Core.Path.{_≡_};
+ghost use Rattle.text.specs.Names.{sameText};
 ghost use Rattle.record.specs.Packages.{packageAt, packageNamed, isListed};
 
 const LEAST: [u32; 3] = [60, 300, 60];
@@ -68,4 +69,20 @@ pub fn package_named(name: &[u8]) -> u8
         return 2;
     }
     3
+}
+
+// Whether a text is the content type of a package, in either case; an empty one where it is not listed.
+pub fn is_type_of(event: u8, t: &[u8]) -> bool
+    ensures { λ r. ⌜ r ≡ sameText (now (t .entry)) (packageAt event .type) ⌝ }
+{
+    if event == 0 {
+        return text::names::same_text(t, b"application/pidf+xml");
+    }
+    if event == 1 {
+        return text::names::same_text(t, b"application/simple-message-summary");
+    }
+    if event == 2 {
+        return text::names::same_text(t, b"application/dialog-info+xml");
+    }
+    text::names::same_text(t, b"")
 }
