@@ -15,6 +15,7 @@ use Rattle.laws.proofs.Parts.{part-past}
 use Rattle.text.specs.Class.{isDigit, isBlank}
 use Rattle.text.specs.Runs.{past}
 use Rattle.text.specs.Number.{isDigits, decimal, numberOf, isFit, valueOr}
+use Rattle.text.specs.declared.number.Num.{Num}
 use Rattle.text.specs.declared.number.Num.the-variants.{Value, Unfit}
 use Rattle.text.proofs.RunLaws.{first-within, past-within}
 use Rattle.request.specs.Names.{Content-Length}
@@ -31,11 +32,11 @@ module _ (v : List ℕ) (d b : ℕ) (digits : d ≡ past isDigit v 0) (blanks : 
   pub cseq-within : b ≤ length v
   cseq-within = rw blanks (past-within isBlank v d (first-within isDigit v d digits))
 
-  -- it is asked for at the ends of its digits and its blanks
-  pub cseq-is : (method : List ℕ)
-      → isCSeq method v ≡ (isFit (numberOf 2147483647 (take d v)) && (ltb d b && same (drop b v) method))
+  -- it is asked for at the ends of its digits and its blanks, and of the number that the digits are
+  pub cseq-is : {n : Num} → n ≡ numberOf 2147483647 (take d v) → (method : List ℕ)
+      → isCSeq method v ≡ (isFit n && (ltb d b && same (drop b v) method))
   unfolding isCSeq
-  cseq-is method = rw (blanks, digits)
+  cseq-is number method = rw (number, blanks, digits)
 
 -- a number that is read is no larger than it may be
 pub value-most : (most : ℕ) (s : List ℕ) → valueOr 0 (numberOf most s) ≤ most

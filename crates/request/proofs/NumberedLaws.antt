@@ -1,8 +1,8 @@
 -- The laws of the names' numbers.
-use mathlib.Core.Path.{_≡_, sym, _∙_}
+use mathlib.Core.Path.{_≡_, refl, ap, sym, _∙_}
 use mathlib.Core.Bool.{Bool, true, false, or-false}
 use mathlib.Core.List.{List, [], _∷_}
-use Prim.Native.Nat.{ℕ, suc, _≤_}
+use Prim.Native.Nat.{ℕ, suc, _+_, _≤_}
 use native.Mathlib.Omega.{arith}
 use lib.ListN.{length, drop}
 use Rattle.laws.specs.Choose.{pick}
@@ -34,3 +34,23 @@ late-within t r e = omega (arith, place-within (λ n. isNamed n t) (drop 5 spell
 pub named-one : (t s : List ℕ) (b : Bool) → b ≡ sameText t s → b ≡ isNamed (s ∷ []) t
 unfolding isNamed any
 named-one t s b e = e ∙ sym (or-false (sameText t s))
+
+-- five names that it does not spell are five more
+pub five-more : (k n : ℕ) → suc (suc (suc (suc (suc k)))) ≡ n → 5 + k ≡ n
+five-more k n e = omega (arith, e)
+
+-- a text that spells none of the names is numbered past them
+pub is-none : (t : List ℕ) → 0 ≡ placeOf (λ m. isNamed m t) []
+unfolding placeOf
+is-none t = refl
+
+module _ (t : List ℕ) (n : List (List ℕ)) (ns : List (List (List ℕ))) {b : Bool} (asked : b ≡ isNamed n t) where
+  -- a text that spells the first of the names has its number
+  pub is-first : b ≡ true → 0 ≡ placeOf (λ m. isNamed m t) (n ∷ ns)
+  unfolding placeOf
+  is-first e = rw (← asked, e)
+
+  -- one that does not is numbered by the others
+  pub is-other : {k : ℕ} → b ≡ false → k ≡ placeOf (λ m. isNamed m t) ns → suc k ≡ placeOf (λ m. isNamed m t) (n ∷ ns)
+  unfolding placeOf
+  is-other e f = rw (← asked, e) (ap suc f)

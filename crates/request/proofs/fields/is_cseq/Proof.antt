@@ -28,8 +28,7 @@ returns : tie.Need-returns
 returns c =
     rw (
       cseq-is _ _ _ (c .before .before .before .before .before .past-kind .ensures)
-          (c .before .before .before .before .past-kind2 .ensures),
-      ← c .before .before .number .ensures,
+          (c .before .before .before .before .past-kind2 .ensures) (c .before .before .number .ensures) _,
       turned-fails (c .before .is-fit .ensures) (c .if1 .taken),
     )
 
@@ -37,8 +36,7 @@ returns-2 : tie.Need-returns-2
 returns-2 c =
     rw (
       cseq-is _ _ _ (c .before .before .before .before .before .before .past-kind .ensures)
-          (c .before .before .before .before .before .past-kind2 .ensures),
-      ← c .before .before .before .number .ensures,
+          (c .before .before .before .before .before .past-kind2 .ensures) (c .before .before .before .number .ensures) _,
       turned-holds (c .before .before .is-fit .ensures) (c .before .if1 .left),
       le-ltb _ _ (c .if2 .taken),
     )
@@ -61,8 +59,7 @@ returns-3 : tie.Need-returns-3
 returns-3 c =
     rw (
       cseq-is _ _ _ (c .before .before .before .before .before .before .before .before .past-kind .ensures)
-          (c .before .before .before .before .before .before .before .past-kind2 .ensures),
-      ← c .before .before .before .before .before .number .ensures,
+          (c .before .before .before .before .before .before .before .past-kind2 .ensures) (c .before .before .before .before .before .number .ensures) _,
       turned-holds (c .before .before .before .before .is-fit .ensures) (c .before .before .before .if1 .left),
       lt-ltb _ _ (c .before .before .if2 .left),
       ← rest-all,

@@ -1,8 +1,7 @@
 -- The names are compared in their order, and the place of the first that fits is given.
 use borrow.Author.Needs.{needs}
-use Rattle.laws.specs.Lists.{placeOf}
 use Rattle.request.specs.Names.{spellings}
-use Rattle.request.proofs.NumberedLaws.{named-one}
+use Rattle.request.proofs.NumberedLaws.{named-one, is-none, is-first, is-other}
 use Rattle.request.proofs.names.late_number.Statement.{statement}
 use Rattle.request.proofs.names.late_number.Tie as tie
 
@@ -16,8 +15,8 @@ spells-requires : tie.Need-spells-requires
 spells-requires c κs = search needs
 
 returns : tie.Need-returns
-unfolding placeOf spellings
-returns c = rw (← c .before .spells .ensures, c .if1 .taken)
+unfolding spellings
+returns c = is-first _ _ _ (c .before .spells .ensures) (c .if1 .taken)
 
 slice-aggregate-spells-3 : tie.Need-slice-aggregate-spells-3
 slice-aggregate-spells-3 c = search needs
@@ -29,10 +28,11 @@ spells-requires-2 : tie.Need-spells-requires-2
 spells-requires-2 c κs = search needs
 
 returns-2 : tie.Need-returns-2
-unfolding placeOf spellings
+unfolding spellings
 returns-2 c =
     let f = c .before .before .before .before in
-    rw (← f .before .spells .ensures, f .if1 .left, ← c .before .spells2 .ensures, c .if2 .taken)
+    is-other _ _ _ (f .before .spells .ensures) (f .if1 .left) (
+    is-first _ _ _ (c .before .spells2 .ensures) (c .if2 .taken))
 
 slice-aggregate-spells-5 : tie.Need-slice-aggregate-spells-5
 slice-aggregate-spells-5 c = search needs
@@ -44,11 +44,13 @@ spells-requires-3 : tie.Need-spells-requires-3
 spells-requires-3 c κs = search needs
 
 returns-3 : tie.Need-returns-3
-unfolding placeOf spellings
+unfolding spellings
 returns-3 c =
     let g = c .before .before .before .before in
     let f = g .before .before .before .before in
-    rw (← f .before .spells .ensures, f .if1 .left, ← g .before .spells2 .ensures, g .if2 .left, ← c .before .spells3 .ensures, c .if3 .taken)
+    is-other _ _ _ (f .before .spells .ensures) (f .if1 .left) (
+    is-other _ _ _ (g .before .spells2 .ensures) (g .if2 .left) (
+    is-first _ _ _ (c .before .spells3 .ensures) (c .if3 .taken)))
 
 slice-aggregate-same-text : tie.Need-slice-aggregate-same-text
 slice-aggregate-same-text c = search needs
@@ -57,21 +59,15 @@ same-text-requires : tie.Need-same-text-requires
 same-text-requires c κs = search needs
 
 returns-4 : tie.Need-returns-4
-unfolding placeOf spellings
+unfolding spellings
 returns-4 c =
     let h = c .before .before .before in
     let g = h .before .before .before .before in
     let f = g .before .before .before .before in
-    rw (
-      ← f .before .spells .ensures,
-      f .if1 .left,
-      ← g .before .spells2 .ensures,
-      g .if2 .left,
-      ← h .before .spells3 .ensures,
-      h .if3 .left,
-      ← named-one _ _ _ (c .before .same-text .ensures),
-      c .if4 .taken,
-    )
+    is-other _ _ _ (f .before .spells .ensures) (f .if1 .left) (
+    is-other _ _ _ (g .before .spells2 .ensures) (g .if2 .left) (
+    is-other _ _ _ (h .before .spells3 .ensures) (h .if3 .left) (
+    is-first _ _ _ (named-one _ _ _ (c .before .same-text .ensures)) (c .if4 .taken))))
 
 slice-aggregate-same-text-2 : tie.Need-slice-aggregate-same-text-2
 slice-aggregate-same-text-2 c = search needs
@@ -80,44 +76,31 @@ same-text-requires-2 : tie.Need-same-text-requires-2
 same-text-requires-2 c κs = search needs
 
 returns-5 : tie.Need-returns-5
-unfolding placeOf spellings
+unfolding spellings
 returns-5 c =
     let k = c .before .before .before in
     let h = k .before .before .before in
     let g = h .before .before .before .before in
     let f = g .before .before .before .before in
-    rw (
-      ← f .before .spells .ensures,
-      f .if1 .left,
-      ← g .before .spells2 .ensures,
-      g .if2 .left,
-      ← h .before .spells3 .ensures,
-      h .if3 .left,
-      ← named-one _ _ _ (k .before .same-text .ensures),
-      k .if4 .left,
-      ← named-one _ _ _ (c .before .same-text2 .ensures),
-      c .if5 .taken,
-    )
+    is-other _ _ _ (f .before .spells .ensures) (f .if1 .left) (
+    is-other _ _ _ (g .before .spells2 .ensures) (g .if2 .left) (
+    is-other _ _ _ (h .before .spells3 .ensures) (h .if3 .left) (
+    is-other _ _ _ (named-one _ _ _ (k .before .same-text .ensures)) (k .if4 .left) (
+    is-first _ _ _ (named-one _ _ _ (c .before .same-text2 .ensures)) (c .if5 .taken)))))
 
 returns-6 : tie.Need-returns-6
-unfolding placeOf spellings
+unfolding spellings
 returns-6 c =
     let k = c .before .before .before in
     let h = k .before .before .before in
     let g = h .before .before .before .before in
     let f = g .before .before .before .before in
-    rw (
-      ← f .before .spells .ensures,
-      f .if1 .left,
-      ← g .before .spells2 .ensures,
-      g .if2 .left,
-      ← h .before .spells3 .ensures,
-      h .if3 .left,
-      ← named-one _ _ _ (k .before .same-text .ensures),
-      k .if4 .left,
-      ← named-one _ _ _ (c .before .same-text2 .ensures),
-      c .if5 .left,
-    )
+    is-other _ _ _ (f .before .spells .ensures) (f .if1 .left) (
+    is-other _ _ _ (g .before .spells2 .ensures) (g .if2 .left) (
+    is-other _ _ _ (h .before .spells3 .ensures) (h .if3 .left) (
+    is-other _ _ _ (named-one _ _ _ (k .before .same-text .ensures)) (k .if4 .left) (
+    is-other _ _ _ (named-one _ _ _ (c .before .same-text2 .ensures)) (c .if5 .left) (
+    is-none _)))))
 
 pub late-number-spec : {M : Type 1} → statement M
 late-number-spec =
