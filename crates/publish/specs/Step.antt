@@ -4,6 +4,7 @@ use mathlib.Core.Bool.{Bool}
 use mathlib.Core.List.{List, []}
 use Rattle.laws.specs.Choose.{pick}
 use Rattle.request.specs.Fields.{hasMatch, body, bodyLength}
+use Rattle.request.specs.declared.Head.{Head}
 use Rattle.record.specs.After.{recordAfter, partAfter}
 use Rattle.record.specs.declared.Record.{Record}
 use Rattle.record.specs.declared.Success.{Success}
@@ -12,18 +13,19 @@ use Rattle.publish.specs.Refusals.{Case, eventOf, granted, presented, ou
 use Rattle.publish.specs.Message.{message}
 use Rattle.publish.specs.declared.Outcome.{Outcome}
 
--- the success that a request is, where no refusal applies
-unfoldable pub successOf : Case → Success
-successOf c =
-    let s = c .text in
-    let h = c .head in
+-- the success that a request is at a record, where no refusal applies
+unfoldable pub successFor : Record → ℕ → List ℕ → Head → Success
+successFor r clock s h =
     record {
-      clock = c .clock;
+      clock = clock;
       event = eventOf s h;
-      slot = pick (hasMatch h) (presented (c .own) (c .clock) s h) 8;
+      slot = pick (hasMatch h) (presented r clock s h) 8;
       granted = granted s h;
       length = bodyLength s h;
     }
+
+unfoldable pub successOf : Case → Success
+successOf c = successFor (c .own) (c .clock) (c .text) (c .head)
 
 -- the message due: none where the outcome is silent
 unfoldable pub answerOf : Case → ℕ → List ℕ

@@ -1,3 +1,13 @@
 pub mod Untouched
 pub mod OneRecord
 pub mod Sound
+pub mod GrantedLaws
+pub mod PlaceLaws
+pub mod OpenLaws
+pub mod AddLaws
+pub mod Whole
+pub mod GatheredLaws
+pub mod EarlyLaws
+pub mod CoreLaws
+pub mod AskLaws
+pub mod Fits

@@ -8,10 +8,10 @@ use native.Mathlib.Omega.{arith}
 use lib.Dec.{eqb, ltb}
 use lib.ListN.{length, getD, replicate, length-set, length-replicate}
 use lib.Seq.{getD-set-other}
-use borrow.Author.Tests.{ltb-true, eqb-true, not-false, eq-eqb}
+use borrow.Author.Tests.{ltb-true, ltb-false, eqb-true, not-false, eq-eqb}
 use Rattle.laws.specs.Lists.{every}
 use Rattle.laws.specs.First.{firstOf, tests}
-use Rattle.laws.proofs.Tests.{or-right, every-at}
+use Rattle.laws.proofs.Tests.{or-left, or-right, every-at}
 use Rattle.laws.proofs.Rows.{none-applied, none-refused}
 use Rattle.laws.proofs.Parts.{put-length, put-before, put-behind}
 use Rattle.request.specs.Head.{headOf, uriOf}
@@ -74,6 +74,11 @@ unfolding isBadSize
 good-size records store e =
     eqb-true store (4096 * records)
     (not-false (eqb store (4096 * records)) (or-right (ltb 16 records) _ (or-right (eqb records 0) _ e)))
+
+-- and there are at most sixteen records
+pub few-records : (records store : ℕ) → isBadSize records store ≡ false → records ≤ 16
+unfolding isBadSize
+few-records records store e = ltb-false 16 records (or-left (ltb 16 records) _ (or-right (eqb records 0) _ e))
 
 -- the part of a record lies in a store of good size
 pub part-lies : (t : Table) (i : ℕ) → badSize t ≡ false → i < length (t .records) → 4096 * i + 4096 ≤ length (t .store)

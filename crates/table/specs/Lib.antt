@@ -1,7 +1,9 @@
 pub mod Table
+pub mod HeldRecord
 pub mod Open
 pub mod Add
 pub mod Handle
+pub mod Gathered
 pub mod Read
 pub mod Run
 pub mod All

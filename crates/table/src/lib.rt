@@ -1,4 +1,10 @@
-// The lent records and store: opening, adding, handling a request, reading state. The definitions stand in specs/.
+// The lent records and store: opening, adding, handling a request, reading state. The definitions stand in specs/; the code here is
+// given the records by value, and what it keeps is put back by the functions that walk the lent slice.
+pub mod adding;
+pub mod finding;
+pub mod handling;
+pub mod opening;
+
 use publish::Outcome;
 
 // What a handled request comes back with: its outcome, and the message's length (0 where there is none).
