@@ -28,7 +28,7 @@ use Rattle.table.specs.Open.{After, openRefusals, emptied, opened}
 use Rattle.table.specs.Add.{Entry, addRefusals, lowestUnused, freshRecord, added}
 use Rattle.table.specs.Handle.{Done, caseOf, tableAfter, doneWith, done}
 use Rattle.table.proofs.OneRecord.{few-records}
-use Rattle.table.specs.Gathered.{gatheredTable, openResult, openStore, emptyAt, emptiedAt, addResult, entryOf, addOut, addStore, gatheredCase, gatheredPlace, handleOut, handleStore, handleAnswer}
+use Rattle.table.specs.Gathered.{gatheredTable, openResult, openStore, emptyAt, emptiedTo, addResult, entryOf, addOut, addStore, gatheredCase, gatheredPlace, handleOut, handleStore, handleAnswer}
 
 -- the table of lent records and store
 abbrev lentTable : List Record → List ℕ → Table
@@ -64,20 +64,20 @@ puts-all zero (r ∷ rs) h = absurd (not-suc-le-zero h)
 puts-all (suc k) (r ∷ rs) h = puts-first k r rs ∙ ap (λ (xs : List Record). emptyRecord ∷ xs) (puts-all k rs (le-of-suc-le-suc h))
 
 -- the sixteen places of a table that is opened
-emptied-all : (rs : List Record) → length rs ≤ 16 → emptiedAt 0 rs ≡ replicate (length rs) emptyRecord
-unfolding emptiedAt emptyAt puts
+emptied-all : (rs : List Record) → length rs ≤ 16 → emptiedTo 0 (length rs) 16 rs ≡ replicate (length rs) emptyRecord
+unfolding emptiedTo emptyAt puts
 emptied-all rs h = puts-all 16 rs h
 
 -- and of one that is refused
-emptied-none : (rs : List Record) → emptiedAt 2 rs ≡ rs
-unfolding emptiedAt emptyAt puts
+emptied-none : (rs : List Record) → emptiedTo 2 (length rs) 16 rs ≡ rs
+unfolding emptiedTo emptyAt puts
 emptied-none rs = puts-past 16 rs
 
 -- what opening leaves of lent records and store
 abbrev pub putOpened : List Record → List ℕ → After
 putOpened rs store =
     let result = openResult (length rs) store in
-    record { result = result; table = record { records = emptiedAt result rs; store = openStore (length rs) store } }
+    record { result = result; table = record { records = emptiedTo result (length rs) 16 rs; store = openStore (length rs) store } }
 
 -- it is what `open` settles
 pub open-gathered : (rs : List Record) (store : List ℕ) → opened (record { records = rs; store = store }) ≡ putOpened rs store

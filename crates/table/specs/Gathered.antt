@@ -1,6 +1,6 @@
 -- The table as functions by value hold it: the first sixteen records, how many were lent, and the store. What is settled there is
 -- what `opened`, `added` and `done` settle of the lent table, once the record kept is put at its index (proofs/GatheredLaws).
-use Prim.Native.Nat.{ℕ}
+use Prim.Native.Nat.{ℕ, zero, suc}
 use mathlib.Core.Bool.{not}
 use mathlib.Core.List.{List, [], _∷_, _++_}
 use lib.Dec.{eqb}
@@ -40,15 +40,10 @@ openStore n store = pick (isBadSize n (length store)) store (replicate (length s
 unfoldable pub emptyAt : ℕ → ℕ → ℕ → ℕ
 emptyAt result n i = pick (eqb result 0) i n
 
--- and the records after it: an empty one put at sixteen places, one after the other
-unfoldable pub emptiedAt : ℕ → List Record → List Record
-emptiedAt result rs =
-    let n = length rs in
-    set (set (set (set (set (set (set (set (set (set (set (set (set (set (set (set rs
-    (emptyAt result n 0) emptyRecord) (emptyAt result n 1) emptyRecord) (emptyAt result n 2) emptyRecord) (emptyAt result n 3) emptyRecord)
-    (emptyAt result n 4) emptyRecord) (emptyAt result n 5) emptyRecord) (emptyAt result n 6) emptyRecord) (emptyAt result n 7) emptyRecord)
-    (emptyAt result n 8) emptyRecord) (emptyAt result n 9) emptyRecord) (emptyAt result n 10) emptyRecord) (emptyAt result n 11) emptyRecord)
-    (emptyAt result n 12) emptyRecord) (emptyAt result n 13) emptyRecord) (emptyAt result n 14) emptyRecord) (emptyAt result n 15) emptyRecord
+-- the records with the empty one put at the first k of these places
+unfoldable pub emptiedTo : ℕ → ℕ → ℕ → List Record → List Record
+emptiedTo result n zero rs = rs
+emptiedTo result n (suc k) rs = set (emptiedTo result n k rs) (emptyAt result n k) emptyRecord
 
 -- adding: its result
 unfoldable pub addResult : List Record → ℕ → List ℕ → Entry → ℕ
