@@ -1,0 +1,60 @@
+-- Each turn takes one piece, behind which the next begins; the line's buffer and the store keep their lengths, and what is held fits the buffer.
+use mathlib.Core.Path.{_≡_}
+use Prim.Native.Nat.{_-_, _≤_}
+use native.Mathlib.Omega.{arith}
+use lib.ListN.{length}
+use borrow.Author.Needs.{needs}
+use Rattle.page.proofs.LineLaws.{piece-on}
+use Rattle.desk.proofs.run.take_all.Statement.{statement}
+use Rattle.desk.proofs.run.take_all.Tie as tie
+
+abbrev Inv-loop : tie.InvT-loop
+Inv-loop line₀ store₀ chunk detail p₀ at₀ line store p at = (length line ≡ length line₀) × (length store ≡ length store₀) × (p .held ≤ length line₀)
+
+abbrev μ-loop : tie.MeasureT-loop
+μ-loop line₀ store₀ chunk detail p₀ at₀ line store p at = length chunk - at
+
+loop-holds : tie.Need-loop-holds Inv-loop μ-loop
+loop-holds c = search needs
+
+piece-at-requires : tie.Need-piece-at-requires Inv-loop μ-loop
+piece-at-requires c κs = search needs
+
+part-of-requires : tie.Need-part-of-requires Inv-loop μ-loop
+part-of-requires c κs = search needs
+
+take-requires : tie.Need-take-requires Inv-loop μ-loop
+take-requires c κs = search needs
+
+loop-less : tie.Need-loop-less Inv-loop μ-loop
+loop-less c =
+    let g = c .before .before .before .before .before .before .before .before .before in
+    omega (arith, piece-on _ _ (g .piece-at .ensures) (g .before .loop-test .taken))
+
+loop-again : tie.Need-loop-again Inv-loop μ-loop
+loop-again c = search needs
+
+same-length : tie.Need-same-length Inv-loop μ-loop
+same-length c = search needs
+
+same-length-2 : tie.Need-same-length-2 Inv-loop μ-loop
+same-length-2 c = search needs
+
+returns : tie.Need-returns Inv-loop μ-loop
+returns c = search needs
+
+pub take-all-spec : {M : Type 1} → statement M
+take-all-spec =
+    tie.close
+    (tie.spec
+    Inv-loop
+    μ-loop
+    loop-holds
+    piece-at-requires
+    part-of-requires
+    take-requires
+    loop-less
+    loop-again
+    same-length
+    same-length-2
+    returns)

@@ -1,0 +1,4 @@
+// The desk: sixteen records and their store, to which the lines of standard input are given one after the other.
+pub mod print;
+pub mod run;
+pub mod step;

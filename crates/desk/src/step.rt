@@ -1,0 +1,69 @@
+// One line: its frame is put to the part.
+use frames::frame;
+use frames::frame::Asked;
+use frames::hex;
+use frames::shown::Shown;
+use record::Record;
+
+// What came of a line: the records after it, what is shown of it, and the length of the message.
+pub struct Step {
+    pub table: [Record; 16],
+    pub shown: Shown,
+    pub length: usize,
+}
+
+// A frame that is not so built: nothing changes.
+fn bad(rs: [Record; 16]) -> Step {
+    Step {
+        table: rs,
+        shown: Shown::Bad,
+        length: 0,
+    }
+}
+
+// A frame that adds.
+fn adds(rs: [Record; 16], store: &mut [u8], address: &[u8], start: u32, spent: u32) -> Step {
+    let told = windgusset::add_sixteen(rs, store, address, start, spent);
+    let table = told.table;
+    Step {
+        table,
+        shown: Shown::Added(told.result),
+        length: 0,
+    }
+}
+
+// A frame that handles, with To number 1.
+fn handles(
+    rs: [Record; 16],
+    store: &mut [u8],
+    clock: u64,
+    request: &[u8],
+    answer: &mut [u8],
+) -> Step {
+    let ran = windgusset::handle_sixteen(rs, store, clock, 1, request, answer);
+    let table = ran.table;
+    let handled = ran.handled;
+    let outcome = handled.outcome;
+    Step {
+        table,
+        shown: Shown::Answered(outcome),
+        length: handled.length,
+    }
+}
+
+// A frame.
+fn frame_step(rs: [Record; 16], store: &mut [u8], answer: &mut [u8], f: &[u8]) -> Step {
+    match frame::read_frame(f) {
+        Asked::Adds(start, spent) => adds(rs, store, frame::rest(f), start, spent),
+        Asked::Handles(clock) => handles(rs, store, clock, frame::rest(f), answer),
+        Asked::Bad => bad(rs),
+    }
+}
+
+// A line.
+pub fn line_step(rs: [Record; 16], store: &mut [u8], answer: &mut [u8], line: &[u8]) -> Step {
+    let mut bytes = [0u8; 4105];
+    let into: &mut [u8] = &mut bytes;
+    let n = hex::decode(line, into);
+    frame_step(rs, store, answer, text::part::part_of(into, 0, n))
+}

@@ -1,0 +1,5 @@
+pub mod NumberLaws
+pub mod HexLaws
+pub mod FrameLaws
+pub mod TextLaws
+pub mod LineLaws

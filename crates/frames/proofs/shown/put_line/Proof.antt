@@ -1,0 +1,49 @@
+-- The number, a space, what is shown, and LF are written one behind the other.
+use native.Mathlib.Omega.{arith}
+use borrow.Author.Needs.{needs}
+use Rattle.laws.proofs.Wrote.{then}
+use Rattle.text.proofs.DigitLaws.{decimal-twenty}
+use Rattle.frames.specs.Shown.{lineText}
+use Rattle.frames.proofs.TextLaws.{shown-most}
+use Rattle.frames.proofs.shown.put_line.Statement.{statement}
+use Rattle.frames.proofs.shown.put_line.Tie as tie
+
+put-decimal-requires : tie.Need-put-decimal-requires
+put-decimal-requires c κs = search needs
+
+slice-aggregate-put : tie.Need-slice-aggregate-put
+slice-aggregate-put c = search needs
+
+put-requires : tie.Need-put-requires
+put-requires c κs = omega (arith, decimal-twenty (c .before .before .before .before .before .before .before .args .number))
+
+put-shown-requires : tie.Need-put-shown-requires
+put-shown-requires c κs = omega (arith, decimal-twenty (c .before .before .before .before .before .before .before .before .before .before .before .args .number))
+
+slice-aggregate-put-2 : tie.Need-slice-aggregate-put-2
+slice-aggregate-put-2 c = search needs
+
+put-requires-2 : tie.Need-put-requires-2
+put-requires-2 c κs =
+    let a = c .before .before .before .before .before .before .before .before .before .before .before .before .before .before .before .before .args in
+    omega (arith, decimal-twenty (a .number), shown-most (a .s))
+
+same-length : tie.Need-same-length
+same-length c = search needs
+
+returns : tie.Need-returns
+unfolding lineText
+returns c = then (c .before .before .before .before .before .before .before .before .before .before .before .before .before .before .before .before .put-decimal .ensures) (then (c .before .before .before .before .before .before .before .before .before .before .before .put .ensures) (then (c .before .before .before .before .before .before .before .put-shown .ensures) (c .before .before .put2 .ensures)))
+
+pub put-line-spec : {M : Type 1} → statement M
+put-line-spec =
+    tie.close
+    (tie.spec
+    put-decimal-requires
+    slice-aggregate-put
+    put-requires
+    put-shown-requires
+    slice-aggregate-put-2
+    put-requires-2
+    same-length
+    returns)

@@ -1,0 +1,20 @@
+-- The word, and the number behind it.
+use borrow.Author.Needs.{needs}
+use Rattle.laws.proofs.Wrote.{then}
+use Rattle.frames.proofs.shown.put_result.Statement.{statement}
+use Rattle.frames.proofs.shown.put_result.Tie as tie
+
+put-requires : tie.Need-put-requires
+put-requires c κs = search needs
+
+put-decimal-requires : tie.Need-put-decimal-requires
+put-decimal-requires c κs = search needs
+
+same-length : tie.Need-same-length
+same-length c = search needs
+
+returns : tie.Need-returns
+returns c = then (c .before .before .before .before .before .before .put .ensures) (c .before .before .put-decimal .ensures)
+
+pub put-result-spec : {M : Type 1} → statement M
+put-result-spec = tie.close (tie.spec put-requires put-decimal-requires same-length returns)

@@ -1,0 +1,4 @@
+// The bench's frames: from a line of hexadecimal to what it asks for, and from what came of it to a line of the listing.
+pub mod frame;
+pub mod hex;
+pub mod shown;
