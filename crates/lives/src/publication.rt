@@ -2,10 +2,10 @@
 use crate::number;
 use crate::script::Life;
 use crate::script::Turn;
-use crate::show;
 use page::output;
 use record::Record;
 use record::Success;
+use view::words;
 ghost use Prim.Native.Nat.{_≤_, _<_};
 ghost use lib.ListN.{length};
 
@@ -86,7 +86,7 @@ fn put_refused(out: &mut [u8], at: usize, why: u8, r: Record, clock: u64) -> usi
         4 => output::bytes(out, at, b" spent\n"),
         _ => {
             let p1 = output::bytes(out, at, b" full");
-            let p2 = show::put_number(out, p1, record::slots::least_end(r, clock));
+            let p2 = words::put_number(out, p1, record::slots::least_end(r, clock));
             output::bytes(out, p2, b"\n")
         }
     }
@@ -95,8 +95,8 @@ fn put_refused(out: &mut [u8], at: usize, why: u8, r: Record, clock: u64) -> usi
 // Puts what a publication gives.
 fn put_given(out: &mut [u8], at: usize, r: Record, k: u8) -> usize {
     let p1 = output::bytes(out, at, b" gives");
-    let p2 = show::put_hex(out, p1, 8, tag::given_tag(r.start, r.spent) as u64);
-    let p3 = show::put_number(out, p2, k as u64);
+    let p2 = words::put_hex(out, p1, 8, tag::given_tag(r.start, r.spent) as u64);
+    let p3 = words::put_number(out, p2, k as u64);
     output::bytes(out, p3, b"\n")
 }
 

@@ -6,6 +6,7 @@ use page::input;
 use page::input::Decoded;
 use page::output;
 use record::Record;
+use view::words;
 
 // The life that is run: whether one has begun, and its record.
 pub struct Life {
@@ -93,7 +94,7 @@ fn shows(out: &mut [u8], at: usize, store: &[u8], life: Life, f: &[u8]) -> Turn 
     }
     let r = life.record;
     let p1 = output::bytes(out, at, b" shows");
-    let p2 = show::put_number(
+    let p2 = words::put_number(
         out,
         p1,
         record::slots::newest_slot(r, number::eight(f, 1), number::small(f, 9)) as u64,

@@ -10,7 +10,7 @@ ghost use mathlib.Core.Path.{_≡_};
 ghost use Prim.Native.Nat.{_<_};
 ghost use Rattle.text.specs.Number.{isFit};
 ghost use Rattle.request.specs.Head.{methodOf, uriOf, seenAt, absent, once, repeated, valueNamed, isClosed, standAsTheyMust, isReadable};
-ghost use Rattle.request.specs.Fields.{isCSeq, cseqFits, there, contentLength, contentLengthFits, expires, expiresFits, isBadRequest, bodyLength, body, eventText, hasType, hasMatch, matchText, isBadMatch};
+ghost use Rattle.request.specs.Fields.{isCSeq, cseqFits, there, contentLength, contentLengthFits, expires, expiresFits, isBadRequest, bodyLength, body, eventText, hasMatch, matchText, isBadMatch};
 
 const FROM: usize = 1;
 
@@ -269,19 +269,6 @@ pub fn event_text(s: &[u8], h: Head) -> &[u8]
     ensures { λ r. ⌜ now r ≡ eventText (now (s .entry)) h ⌝ }
 {
     text::runs::up_to_parameter(value_named(s, h, EVENT))
-}
-
-// Whether the content type is that one.
-pub fn has_type(wanted: &[u8], s: &[u8], h: Head) -> bool
-    ensures { λ r. ⌜ r ≡ hasType (now (wanted .entry)) (now (s .entry)) h ⌝ }
-{
-    if is_absent(h, CONTENT_TYPE) {
-        return false;
-    }
-    text::names::same_text(
-        text::runs::up_to_parameter(value_named(s, h, CONTENT_TYPE)),
-        wanted,
-    )
 }
 
 // Whether SIP-If-Match is given.

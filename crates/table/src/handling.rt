@@ -91,10 +91,12 @@ fn is_silent(o: Outcome) -> bool
 
 // Writes the message that is due at the begin of the answer buffer, and gives its length; nothing where none is due.
 fn put_answer(answer: &mut [u8], s: &[u8], h: Head, number: u32, o: Outcome) -> usize
-    requires { ⌜ (4608 ≤ length (now answer)) × (length (now s) ≤ 4096) × (h ≡ headOf (now s)) × (isSilent o ≡ false → isReadable (now s) h ≡ true) ⌝ }
+    requires { ⌜ (4608 ≤ length (now answer)) × (length (now s) ≤ 4096) × (h ≡ headOf (now s))
+        × (isSilent o ≡ false → isReadable (now s) h ≡ true) ⌝ }
     ensures { λ r. ⌜ (r ≡ length (pick (isSilent o) [] (message (now (s .entry)) number o)))
         × (now (answer .exit)
-        ≡ pick (isSilent o) [] (message (now (s .entry)) number o) ++ drop (length (pick (isSilent o) [] (message (now (s .entry)) number o))) (now (answer .entry))) ⌝ }
+        ≡ pick (isSilent o) [] (message (now (s .entry)) number o)
+        ++ drop (length (pick (isSilent o) [] (message (now (s .entry)) number o))) (now (answer .entry))) ⌝ }
 {
     if is_silent(o) {
         return 0;
@@ -112,8 +114,11 @@ fn handle_read(
     request: &[u8],
     answer: &mut [u8],
 ) -> Settled
-    requires { ⌜ isSuccess (firstOf (earlyRows g n (length (now store)) (length (now request)) (length (now answer)) clock) (Granted 0 0)) ≡ true ⌝ }
-    ensures { λ r. ⌜ (r ≡ handleOut g n (now (store .entry)) clock number (now (request .entry)) (now (answer .entry))) × ((now (store .exit) ≡ handleStore g n (now (store .entry)) clock number (now (request .entry)) (now (answer .entry))) × (now (answer .exit) ≡ handleAnswer g n (now (store .entry)) clock number (now (request .entry)) (now (answer .entry)))) ⌝ }
+    requires { ⌜ isSuccess
+        (firstOf (earlyRows g n (length (now store)) (length (now request)) (length (now answer)) clock) (Granted 0 0)) ≡ true ⌝ }
+    ensures { λ r. ⌜ (r ≡ handleOut g n (now (store .entry)) clock number (now (request .entry)) (now (answer .entry)))
+        × ((now (store .exit) ≡ handleStore g n (now (store .entry)) clock number (now (request .entry)) (now (answer .entry)))
+        × (now (answer .exit) ≡ handleAnswer g n (now (store .entry)) clock number (now (request .entry)) (now (answer .entry)))) ⌝ }
 {
     let h = reading::read_head(request);
     let i = finding::place_for(fields::uri_of(request, h), g, n);
@@ -147,7 +152,9 @@ pub fn handle_gathered(
     request: &[u8],
     answer: &mut [u8],
 ) -> Settled
-    ensures { λ r. ⌜ (r ≡ handleOut g n (now (store .entry)) clock number (now (request .entry)) (now (answer .entry))) × ((now (store .exit) ≡ handleStore g n (now (store .entry)) clock number (now (request .entry)) (now (answer .entry))) × (now (answer .exit) ≡ handleAnswer g n (now (store .entry)) clock number (now (request .entry)) (now (answer .entry)))) ⌝ }
+    ensures { λ r. ⌜ (r ≡ handleOut g n (now (store .entry)) clock number (now (request .entry)) (now (answer .entry)))
+        × ((now (store .exit) ≡ handleStore g n (now (store .entry)) clock number (now (request .entry)) (now (answer .entry)))
+        × (now (answer .exit) ≡ handleAnswer g n (now (store .entry)) clock number (now (request .entry)) (now (answer .entry)))) ⌝ }
 {
     let outcome = early_refusal(g, n, store.len(), request.len(), answer.len(), clock);
     if !refusals::is_success(outcome) {

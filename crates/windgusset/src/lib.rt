@@ -6,7 +6,8 @@ ghost use Rattle.windgusset.specs.Contracts.{OpenedAs, AddedAs, HandledA
 
 // All records emptied and the store zeroed, where their sizes allow it; where not, nothing is put.
 pub fn open(records: &mut [Record], store: &mut [u8]) -> u8
-    ensures { λ r. ⌜ OpenedAs (now (records .entry)) (now (store .entry)) r (now (records .exit)) (now (store .exit)) ⌝ }
+    ensures { λ r. ⌜ OpenedAs (now (records .entry)) (now (store .entry))
+        r (now (records .exit)) (now (store .exit)) ⌝ }
 {
     let n = records.len();
     let result = table::opening::open_store(n, store);
@@ -32,7 +33,8 @@ pub fn open(records: &mut [Record], store: &mut [u8]) -> u8
 
 // An address added.
 pub fn add(records: &mut [Record], store: &mut [u8], address: &[u8], start: u32, spent: u32) -> u8
-    ensures { λ r. ⌜ AddedAs (now (records .entry)) (now (store .entry)) (now (address .entry)) start spent r (now (records .exit)) (now (store .exit)) ⌝ }
+    ensures { λ r. ⌜ AddedAs (now (records .entry)) (now (store .entry)) (now (address .entry)) start spent
+        r (now (records .exit)) (now (store .exit)) ⌝ }
 {
     let n = records.len();
     let g = lent::gathered(records);
@@ -50,7 +52,8 @@ pub fn handle(
     request: &[u8],
     answer: &mut [u8],
 ) -> Handled
-    ensures { λ r. ⌜ HandledAs (now (records .entry)) (now (store .entry)) clock number (now (request .entry)) (now (answer .entry)) r (now (records .exit)) (now (store .exit)) (now (answer .exit)) ⌝ }
+    ensures { λ r. ⌜ HandledAs (now (records .entry)) (now (store .entry)) clock number (now (request .entry)) (now (answer .entry))
+        r (now (records .exit)) (now (store .exit)) (now (answer .exit)) ⌝ }
 {
     let n = records.len();
     let g = lent::gathered(records);
@@ -91,7 +94,8 @@ pub fn add_sixteen(
     start: u32,
     spent: u32,
 ) -> Told
-    ensures { λ r. ⌜ AddedAs rs (now (store .entry)) (now (address .entry)) start spent (r .result) (r .table) (now (store .exit)) ⌝ }
+    ensures { λ r. ⌜ AddedAs rs (now (store .entry)) (now (address .entry)) start spent
+        (r .result) (r .table) (now (store .exit)) ⌝ }
 {
     let mut t = rs;
     let result = add(&mut t, store, address, start, spent);
@@ -110,7 +114,8 @@ pub fn handle_sixteen(
     request: &[u8],
     answer: &mut [u8],
 ) -> Ran
-    ensures { λ r. ⌜ HandledAs rs (now (store .entry)) clock number (now (request .entry)) (now (answer .entry)) (r .handled) (r .table) (now (store .exit)) (now (answer .exit)) ⌝ }
+    ensures { λ r. ⌜ HandledAs rs (now (store .entry)) clock number (now (request .entry)) (now (answer .entry))
+        (r .handled) (r .table) (now (store .exit)) (now (answer .exit)) ⌝ }
 {
     let mut t = rs;
     let handled = handle(&mut t, store, clock, number, request, answer);
