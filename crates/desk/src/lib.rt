@@ -1,4 +1,5 @@
 // The desk: sixteen records and their store, to which the lines of standard input are given one after the other.
-pub mod print;
+pub mod detail;
 pub mod run;
 pub mod step;
+pub mod turn;

@@ -1,13 +1,15 @@
 // The lines of standard input, of any length and number: as much of a line is held as shows that it is too long.
-use crate::print;
-use crate::step;
+use crate::detail;
+use crate::turn;
 use libc::STDIN_FILENO;
 use libc::STDOUT_FILENO;
 use page::lines;
 use record::Record;
 use text::part;
+ghost use mathlib.Core.Path.{_≡_};
 ghost use Prim.Native.Nat.{_≤_};
 ghost use lib.ListN.{length};
+ghost use Rattle.desk.specs.Turned.{BehindAs, BegunAs};
 
 // How far the input is read: how many bytes of a line are held, the line's number, and the records before it.
 struct Place {
@@ -25,23 +27,26 @@ fn mark(answer: &mut [u8]) {
     }
 }
 
-// Runs a line and prints what comes of it; gives the records after it.
+// Runs a line and prints what comes of it, and more where that is asked for; gives the records after it.
 fn run_line(
     rs: [Record; 16],
     store: &mut [u8],
     line: &[u8],
     number: u64,
-    detail: bool,
-) -> [Record; 16] {
+    more: bool,
+) -> [Record; 16]
+    ensures { λ r. ⌜ BehindAs rs (now (store .entry)) (now (line .entry)) r (now (store .exit)) ⌝ }
+{
     let mut room = [0u8; 4608];
     let answer: &mut [u8] = &mut room;
     mark(answer);
-    let s = step::line_step(rs, store, answer, line);
-    let table = s.table;
-    let shown = s.shown;
-    print::print_line(number, shown);
-    if detail {
-        print::print_state(table, store, answer, s.length);
+    let mut page = [0u8; 65];
+    let out: &mut [u8] = &mut page;
+    let t = turn::line_turn(out, number, rs, store, answer, line);
+    io::write_all(STDOUT_FILENO, part::part_of(out, 0, t.end));
+    let table = t.table;
+    if more {
+        detail::print_detail(table, store, answer, t.length);
     }
     table
 }
@@ -58,7 +63,7 @@ fn take(
     place: Place,
     bs: &[u8],
     ended: bool,
-    detail: bool,
+    more: bool,
 ) -> Place
     requires { ⌜ place .held ≤ length (now line) ⌝ }
     ensures { λ r. ⌜ r .held ≤ length (now (line .entry)) ⌝ }
@@ -73,7 +78,7 @@ fn take(
             table: rs,
         };
     }
-    let table = run_line(rs, store, part::part_of(line, 0, n), number, detail);
+    let table = run_line(rs, store, part::part_of(line, 0, n), number, more);
     Place {
         held: 0,
         number: next_number(number),
@@ -82,7 +87,7 @@ fn take(
 }
 
 // A chunk of the input.
-fn take_all(line: &mut [u8], store: &mut [u8], place: Place, chunk: &[u8], detail: bool) -> Place
+fn take_all(line: &mut [u8], store: &mut [u8], place: Place, chunk: &[u8], more: bool) -> Place
     requires { ⌜ place .held ≤ length (now line) ⌝ }
     ensures { λ r. ⌜ r .held ≤ length (now (line .entry)) ⌝ }
 {
@@ -91,16 +96,17 @@ fn take_all(line: &mut [u8], store: &mut [u8], place: Place, chunk: &[u8], detai
     while at < chunk.len() {
         let piece = lines::piece_at(chunk, at);
         let bs = part::part_of(chunk, at, piece.end);
-        let next = take(line, store, p, bs, piece.end < piece.next, detail);
+        let next = take(line, store, p, bs, piece.end < piece.next, more);
         p = next;
         at = piece.next;
     }
     p
 }
 
-// Opens sixteen records.
+// Opens sixteen records, before the first line.
 fn opened(store: &mut [u8]) -> Place
-    ensures { λ r. ⌜ r .held ≤ 0 ⌝ }
+    requires { ⌜ length (now store) ≡ 65536 ⌝ }
+    ensures { λ r. ⌜ BegunAs (r .held) (r .number) (r .table) (now (store .exit)) ⌝ }
 {
     let e = lent::empty();
     let rs = [e; 16];
@@ -113,8 +119,8 @@ fn opened(store: &mut [u8]) -> Place
     }
 }
 
-// Runs the lines of standard input.
-pub fn run(detail: bool) {
+// Runs the lines of standard input, and prints the listing; more after each of its lines where that is asked for.
+pub fn run(more: bool) {
     let mut room = io::large_buffer();
     let chunk: &mut [u8] = &mut room;
     let mut space = [0u8; 8211];
@@ -129,13 +135,13 @@ pub fn run(detail: bool) {
         if got == 0 {
             break;
         }
-        let next = take_all(line, store, place, part::part_of(chunk, 0, got), detail);
+        let next = take_all(line, store, place, part::part_of(chunk, 0, got), more);
         place = next;
         turns -= 1;
     }
     let n = place.held;
     if 0 < n {
         let rs = place.table;
-        run_line(rs, store, part::part_of(line, 0, n), place.number, detail);
+        run_line(rs, store, part::part_of(line, 0, n), place.number, more);
     }
 }

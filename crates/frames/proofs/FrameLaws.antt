@@ -1,5 +1,5 @@
 -- The laws of a frame: what its first byte and its length settle.
-use mathlib.Core.Path.{_≡_, refl, sym, _∙_, ap}
+use mathlib.Core.Path.{_≡_}
 use mathlib.Core.List.{List}
 use Prim.Native.Nat.{ℕ, _-_, _<_, _≤_}
 use native.Mathlib.Omega.{arith}
@@ -8,7 +8,7 @@ use lib.Seq.{take-all}
 use borrow.Author.Tests.{lt-ltb, le-ltb, eq-eqb, ne-eqb}
 use Rattle.laws.specs.Lists.{byteAt, part}
 use Rattle.text.proofs.RunLaws.{byte-there}
-use Rattle.listing.specs.Frames.{Frame, adds, handles, bad, highFirst, addFrame, handleFrame, frameOf}
+use Rattle.listing.specs.Frames.{adds, handles, bad, highFirst, addFrame, handleFrame, frameOf}
 use Rattle.frames.specs.Asked.{frameWith}
 use Rattle.frames.specs.declared.frame.Asked.{Asked}
 use Rattle.frames.specs.declared.frame.Asked.the-variants.{Adds, Handles, Bad}

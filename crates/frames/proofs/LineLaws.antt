@@ -11,7 +11,7 @@ use Rattle.laws.specs.Choose.{pick}
 use Rattle.laws.specs.Lists.{part}
 use Rattle.laws.specs.Wrote.{Wrote}
 use Rattle.laws.proofs.Wrote.{wrote-part}
-use Rattle.listing.specs.Frames.{Frame, bad, isHex, hexBytes, frameOf, lineFrame}
+use Rattle.listing.specs.Frames.{bad, isHex, hexBytes, frameOf, lineFrame}
 use Rattle.frames.specs.Lines.{lineBytes}
 use Rattle.frames.proofs.HexLaws.{hex-long}
 

@@ -1,6 +1,6 @@
 -- The numbers in a frame, high first.
 use mathlib.Core.Path.{_≡_, refl, sym, _∙_, ap}
-use mathlib.Core.List.{List, [], _∷_}
+use mathlib.Core.List.{List, _∷_}
 use Prim.Native.Nat.{ℕ, suc, _+_, _-_, _*_, _<_, _≤_}
 use native.Mathlib.Omega.{arith}
 use native.Mathlib.Numerals.{add-one}
@@ -32,6 +32,7 @@ module _ (s : List ℕ) (i : ℕ) where
   unfolding part highFirst
   four-is h p q r t = let n : i + 4 - i ≡ 4 = omega arith in rw (n, four-more 0 s i h) (omega arith)
 
+  -- the first four bytes and the last four, put together
   halves : i + 8 ≤ length s
       → highFirst 0 (part s i (i + 4)) * 4294967296 + highFirst 0 (part s (i + 4) (i + 4 + 4)) ≡ highFirst 0 (part s i (i + 8))
   unfolding part highFirst

@@ -1,6 +1,6 @@
 -- The buffer keeps its length, and what is left of it falls.
 use mathlib.Core.Path.{_≡_}
-use Prim.Native.Nat.{_-_, _≤_}
+use Prim.Native.Nat.{_-_}
 use lib.ListN.{length}
 use borrow.Author.Needs.{needs}
 use Rattle.desk.proofs.run.mark.Statement.{statement}

@@ -7,7 +7,8 @@ use Rattle.desk.proofs.run.run.Statement.{statement}
 use Rattle.desk.proofs.run.run.Tie as tie
 
 abbrev Inv-loop : tie.InvT-loop
-Inv-loop detail chunk₀ line₀ store₀ place₀ turns₀ chunk line store place turns = (length chunk ≡ length chunk₀) × (length line ≡ 8211) × (length store ≡ length store₀) × (place .held ≤ 8211)
+Inv-loop detail chunk₀ line₀ store₀ place₀ turns₀ chunk line store place turns =
+    (length chunk ≡ length chunk₀) × (length line ≡ 8211) × (length store ≡ length store₀) × (place .held ≤ 8211)
 
 abbrev μ-loop : tie.MeasureT-loop
 μ-loop detail chunk₀ line₀ store₀ place₀ turns₀ chunk line store place turns = turns

@@ -60,8 +60,10 @@ cast-result c = search needs
 
 returns : tie.Need-returns
 returns c =
-    let a = c .before .before .before .before .before .before .before .before .before in
-    four-is _ _ (a .pre) (c .before .before .before .before .before .before .wide .ensures .0) (c .before .before .before .before .wide2 .ensures .0) (c .before .before .wide3 .ensures .0) (c .wide4 .ensures .0)
+    let w3 = c .before .before in
+    let w2 = w3 .before .before in
+    let w1 = w2 .before .before in
+    four-is _ _ (w1 .before .before .before .pre) (w1 .wide .ensures .0) (w2 .wide2 .ensures .0) (w3 .wide3 .ensures .0) (c .wide4 .ensures .0)
 
 pub four-spec : {M : Type 1} → statement M
 four-spec =

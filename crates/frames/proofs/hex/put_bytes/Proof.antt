@@ -1,7 +1,6 @@
 -- After i turns the bytes of the first i pairs are written, and each turn writes one more.
 use mathlib.Core.Path.{_≡_}
 use Prim.Native.Nat.{_+_, _*_, _/_, _-_, _≤_}
-use native.Mathlib.Nat.{zero-add}
 use native.Mathlib.Omega.{arith}
 use lib.ListN.{length, take}
 use borrow.Author.Needs.{needs}
@@ -41,7 +40,8 @@ pair-requires : tie.Need-pair-requires Inv-loop μ-loop
 pair-requires c κs =
     let l = c .before .before .before .loop in
     let s = c .before .before .before .before .before .before in
-    (digit-value (now (s .args .line)) (s .pre .0) (l .i * 2) (search needs), digit-value (now (s .args .line)) (s .pre .0) (l .i * 2 + 1) (search needs))
+    let value = digit-value (now (s .args .line)) (s .pre .0) in
+    (value (l .i * 2) (search needs), value (l .i * 2 + 1) (search needs))
 
 slice-write-out : tie.Need-slice-write-out Inv-loop μ-loop
 slice-write-out c =
@@ -58,7 +58,9 @@ loop-again : tie.Need-loop-again Inv-loop μ-loop
 loop-again c =
     let l = c .before .before .before .before .loop in
     let s = c .before .before .before .before .before .before .before in
-    (search needs, search needs, pair-more (now (s .args .line)) (l .i) _ (search needs) (omega (arith, digits-most (now (s .args .line)) (s .pre .0))) (c .pair .ensures) (l .inv .2))
+    let t = now (s .args .line) in
+    let fits = digits-most t (s .pre .0) in
+    (search needs, search needs, pair-more t (l .i) _ (search needs) (omega arith) (c .pair .ensures) (l .inv .2))
 
 same-length : tie.Need-same-length Inv-loop μ-loop
 same-length c = search needs

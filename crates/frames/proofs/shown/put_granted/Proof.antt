@@ -31,7 +31,12 @@ same-length c = search needs
 
 returns : tie.Need-returns
 unfolding outcomeText tagText
-returns c = then (c .before .before .before .before .before .before .before .before .before .before .before .before .before .before .before .put .ensures) (then (c .before .before .before .before .before .before .before .before .before .before .before .put-eight .ensures) (then (c .before .before .before .before .before .before .put2 .ensures) (c .before .before .put-decimal .ensures)))
+returns c =
+    let e = c .before .before in
+    let q = e .before .before .before .before in
+    let v = q .before .before .before .before .before in
+    let a = v .before .before .before .before in
+    then (a .put .ensures) (then (v .put-eight .ensures) (then (q .put2 .ensures) (e .put-decimal .ensures)))
 
 pub put-granted-spec : {M : Type 1} → statement M
 put-granted-spec =

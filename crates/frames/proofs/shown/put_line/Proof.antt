@@ -33,7 +33,12 @@ same-length c = search needs
 
 returns : tie.Need-returns
 unfolding lineText
-returns c = then (c .before .before .before .before .before .before .before .before .before .before .before .before .before .before .before .before .put-decimal .ensures) (then (c .before .before .before .before .before .before .before .before .before .before .before .put .ensures) (then (c .before .before .before .before .before .before .before .put-shown .ensures) (c .before .before .put2 .ensures)))
+returns c =
+    let e = c .before .before in
+    let v = e .before .before .before .before .before in
+    let q = v .before .before .before .before in
+    let a = q .before .before .before .before .before in
+    then (a .put-decimal .ensures) (then (q .put .ensures) (then (v .put-shown .ensures) (e .put2 .ensures)))
 
 pub put-line-spec : {M : Type 1} → statement M
 put-line-spec =

@@ -24,7 +24,11 @@ same-length c = search needs
 
 returns : tie.Need-returns
 unfolding outcomeText
-returns c = then (c .before .before .before .before .before .before .before .before .before .before .before .put-decimal .ensures) (then (c .before .before .before .before .before .before .put .ensures) (c .before .before .put-field .ensures))
+returns c =
+    let e = c .before .before in
+    let q = e .before .before .before .before in
+    let a = q .before .before .before .before .before in
+    then (a .put-decimal .ensures) (then (q .put .ensures) (e .put-field .ensures))
 
 pub put-refused-spec : {M : Type 1} → statement M
 put-refused-spec =

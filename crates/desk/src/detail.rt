@@ -1,20 +1,10 @@
-// What is printed for a line.
-use frames::shown;
-use frames::shown::Shown;
+// What the witness prints besides: the message, the answer buffer past it, and the records in use with their store.
 use libc::STDOUT_FILENO;
 use page::output;
 use record::Record;
 use text::part;
 use view::records;
 use view::words;
-
-// Prints a line of the listing.
-pub fn print_line(number: u64, s: Shown) {
-    let mut page = [0u8; 65];
-    let out: &mut [u8] = &mut page;
-    let n = shown::put_line(out, number, s);
-    io::write_all(STDOUT_FILENO, part::part_of(out, 0, n));
-}
 
 // Puts the message of so many bytes, and the sum of the answer buffer's bytes past it.
 fn put_answer(out: &mut [u8], answer: &[u8], length: usize) -> usize {
@@ -24,8 +14,8 @@ fn put_answer(out: &mut [u8], answer: &[u8], length: usize) -> usize {
     words::put_sum(out, p3, part::part_of(answer, length, answer.len()))
 }
 
-// Prints the message, the buffer past it, and the records in use with their store.
-pub fn print_state(rs: [Record; 16], store: &[u8], answer: &[u8], length: usize) {
+// Prints them.
+pub fn print_detail(rs: [Record; 16], store: &[u8], answer: &[u8], length: usize) {
     let mut page = [0u8; 32768];
     let out: &mut [u8] = &mut page;
     let p = put_answer(out, answer, length);

@@ -1,0 +1,3 @@
+pub mod LeftLaws
+pub mod TurnLaws
+pub mod OpenLaws

@@ -1,0 +1,38 @@
+// A line's turn: what the bench prints for it.
+use crate::step;
+use frames::shown;
+use record::Record;
+ghost use mathlib.Core.Path.{_≡_};
+ghost use Prim.Native.Nat.{_≤_};
+ghost use lib.ListN.{length};
+ghost use Rattle.desk.specs.Turned.{Turned};
+
+// The records after a line, the length of the message, and where what is printed ends.
+pub struct Turn {
+    pub table: [Record; 16],
+    pub length: usize,
+    pub end: usize,
+}
+
+// Puts the line of the listing that a line gives to the front of a page.
+pub fn line_turn(
+    page: &mut [u8],
+    number: u64,
+    rs: [Record; 16],
+    store: &mut [u8],
+    answer: &mut [u8],
+    line: &[u8],
+) -> Turn
+    requires { ⌜ (65 ≤ length (now page)) × (length (now answer) ≡ 4608) ⌝ }
+    ensures { λ r. ⌜ Turned rs (now (store .entry)) (now (line .entry)) (now (page .entry)) number (r .table) (now (store .exit)) (now (page .exit)) (r .end) ⌝ }
+{
+    let s = step::line_step(rs, store, answer, line);
+    let table = s.table;
+    let shown = s.shown;
+    let end = shown::put_line(page, number, shown);
+    Turn {
+        table,
+        length: s.length,
+        end,
+    }
+}
