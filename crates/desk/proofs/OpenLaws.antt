@@ -8,7 +8,7 @@ use Rattle.record.specs.declared.Record.{Record}
 use Rattle.publish.specs.Refusals.{isBadSize}
 use Rattle.table.specs.Table.{Table, badSize}
 use Rattle.table.specs.Open.{After, opened, emptied}
-use Rattle.table.specs.Run.{openTable}
+use Rattle.listing.specs.Lent.{zeroTable, openTable}
 use Rattle.windgusset.specs.Contracts.{OpenedAs}
 
 -- a table of these sizes is emptied, whatever it holds
@@ -19,7 +19,7 @@ sizes-open t h k = rw (h, k)
 
 -- so is the one that the listing begins with
 listing-begins : _≡_ {A = Table} (openTable 16) (record { records = replicate 16 emptyRecord; store = replicate 65536 0 })
-unfolding openTable
+unfolding zeroTable openTable
 listing-begins = sizes-open _ (length-replicate 16 emptyRecord) (length-replicate {A = ℕ} 65536 0)
 
 -- what opening leaves

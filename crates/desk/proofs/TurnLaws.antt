@@ -10,7 +10,7 @@ use Rattle.publish.specs.Outcomes.{isSuccess}
 use Rattle.publish.specs.Refusals.{Case, outcomeOf}
 use Rattle.table.specs.Table.{Table}
 use Rattle.table.specs.Handle.{Input, caseOf, tableAfter, doneWith, done}
-use Rattle.table.specs.Run.{lentBuffer}
+use Rattle.listing.specs.Lent.{lentBuffer}
 use Rattle.listing.specs.Frames.{Frame, adds, handles, bad, lineFrame}
 use Rattle.listing.specs.Listing.{Shown as Said, outcomeText, shownOf, listingFrom}
 use Rattle.frames.specs.Shown.{shownText, lineText}

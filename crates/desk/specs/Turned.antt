@@ -7,7 +7,7 @@ use Rattle.laws.specs.Wrote.{Wrote}
 use Rattle.text.specs.Digits.{decimalOf}
 use Rattle.record.specs.declared.Record.{Record}
 use Rattle.table.specs.Table.{Table}
-use Rattle.table.specs.Run.{openTable}
+use Rattle.listing.specs.Lent.{openTable}
 use Rattle.listing.specs.Frames.{lineFrame}
 use Rattle.listing.specs.Listing.{shownOf}
 

@@ -13,10 +13,9 @@ use Rattle.publish.specs.declared.Outcome.the-variants.{Silent, Refused, Grante
 use Rattle.table.specs.Table.{Table}
 use Rattle.table.specs.Handle.{done}
 use Rattle.table.specs.Read.{Query, stateOf}
-use Rattle.table.specs.Run.{run, lentBuffer}
 use Rattle.table.specs.declared.Shown.the-variants.{Stored, Default, Front}
 use Rattle.listing.specs.Input.{publish, asking, telling}
-use Rattle.listing.specs.Worked.{entry, at, annTable, back, backs}
+use Rattle.listing.specs.Worked.{at, annTable, back, runOf, backs}
 use Rattle.listing.specs.All.{all-listing}
 
 -- 1: an answer buffer of 4,607 bytes
@@ -111,7 +110,7 @@ nine-told = refl
 
 -- ann has told one byte of presence at clock 100
 told : Table
-told = run 1 (entry "ann" 0 ∷ []) (at 100 (telling "ann" "Event: presence\r\n") ∷ []) .table
+told = runOf "ann" (at 100 (telling "ann" "Event: presence\r\n") ∷ []) .table
 
 -- reading state: the live body, as a part of the store
 read-live : stateOf (record { address = bytes "ann"; name = bytes "presence"; clock = 3699 }) told ≡ record { result = 0; shown = Stored 0 1 }

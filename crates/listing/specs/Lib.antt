@@ -1,3 +1,4 @@
+pub mod Lent
 pub mod Frames
 pub mod Listing
 pub mod Input

@@ -12,7 +12,7 @@ use Rattle.table.specs.Table.{Table}
 use Rattle.table.specs.Open.{After}
 use Rattle.table.specs.Add.{added}
 use Rattle.table.specs.Handle.{Done, done}
-use Rattle.table.specs.Run.{openTable, lentBuffer}
+use Rattle.listing.specs.Lent.{openTable, lentBuffer}
 use Rattle.listing.specs.Frames.{Frame, adds, handles, bad, linesOf, lineFrame}
 
 -- Min-Expires or Retry-After, or -

@@ -1,6 +1,7 @@
--- Reading state.
+-- Reading state. Of the store only its size is asked, so whether the sizes are bad is said beside the table: the code holds the
+-- records that were lent, and of the store its length.
 use Prim.Native.Nat.{ℕ, _+_}
-use mathlib.Core.Bool.{Bool, true, false, _&&_, _||_, not}
+use mathlib.Core.Bool.{Bool, _||_, not}
 use mathlib.Core.List.{List, [], _∷_}
 use lib.Dec.{ltb, eqb}
 use lib.ListN.{getD}
@@ -8,7 +9,7 @@ use Rattle.laws.specs.Choose.{pick}
 use Rattle.laws.specs.First.{Row, row, firstOf}
 use Rattle.laws.specs.Lists.{part}
 use Rattle.record.specs.Packages.{packageNamed, isListed}
-use Rattle.record.specs.Places.{Place, freePlace, places, newest}
+use Rattle.record.specs.Places.{freePlace, places, newest}
 use Rattle.record.specs.Sound.{latestClock, allSound}
 use Rattle.record.specs.Store.{partAt, roomAt}
 use Rattle.record.specs.declared.Record.{Record}
@@ -27,35 +28,43 @@ pub record Query : Type 0 where
 unfoldable pub askedRecord : Query → Table → Record
 askedRecord y t = recordAt t (placeFor (y .address) t)
 
--- refused: 2, 4, 5, then 10 address or package not known, 11 clock below the latest success
-unfoldable pub readRefusals : Query → Table → List (Row ℕ)
-readRefusals y t =
-    row (badSize t) 2 ∷
+-- refused by what is asked of one record: 10 address or package not known, 11 clock below the latest success
+unfoldable pub askedRows : Bool → Record → ℕ → ℕ → List (Row ℕ)
+askedRows known own event clock = row (not known || not (isListed event)) 10 ∷ row (ltb clock (own .clock)) 11 ∷ []
+
+-- refused: 2, 4, 5, then 10 and 11
+unfoldable pub readRefusals : Bool → Query → Table → List (Row ℕ)
+readRefusals bad y t =
+    row bad 2 ∷
     row (ltb latestClock (y .clock)) 4 ∷
     row (not (allSound (t .records))) 5 ∷
-    row (not (isKnown (y .address) t) || not (isListed (packageNamed (y .name)))) 10 ∷
-    row (ltb (y .clock) (askedRecord y t .clock)) 11 ∷
-    []
+    askedRows (isKnown (y .address) t) (askedRecord y t) (packageNamed (y .name)) (y .clock)
 
--- the body of slot k of record i, as a part of the store
-unfoldable pub storedBody : Table → ℕ → ℕ → Shown
-storedBody t i k = Stored (partAt i + roomAt k) (getD (places (recordAt t i)) k freePlace .slot .length)
+-- the body of slot k of a record that stands at place i, as a part of the store
+unfoldable pub bodyAt : Record → ℕ → ℕ → Shown
+bodyAt r i k = Stored (partAt i + roomAt k) (getD (places r) k freePlace .slot .length)
 
 -- the body of that package's live publication with the highest body number; with none live, the whole default body
-unfoldable pub shownFor : Query → Table → Shown
-shownFor y t =
-    let k = newest (y .clock) (packageNamed (y .name)) (askedRecord y t) in
-    pick (ltb k 8) (storedBody t (placeFor (y .address) t) k) Default
+unfoldable pub newestBody : Record → ℕ → ℕ → ℕ → Shown
+newestBody r i event clock = let k = newest clock event r in pick (ltb k 8) (bodyAt r i k) Default
 
--- `read`: a refusal shows the empty front part of the default
-unfoldable pub stateOf : Query → Table → State
-stateOf y t =
-    let result = firstOf (readRefusals y t) 0 in
+-- the same of the record that the query is about
+unfoldable pub shownFor : Query → Table → Shown
+shownFor y t = newestBody (askedRecord y t) (placeFor (y .address) t) (packageNamed (y .name)) (y .clock)
+
+-- what is read where the sizes are bad or not: a refusal shows the empty front part of the default
+unfoldable pub stateWith : Bool → Query → Table → State
+stateWith bad y t =
+    let result = firstOf (readRefusals bad y t) 0 in
     let shown = shownFor y t in
     record { result = result; shown = pick (eqb result 0) shown Front }
 
--- the bytes that are shown, given the caller's default body
-unfoldable pub shownBytes : Table → List ℕ → Shown → List ℕ
-shownBytes t default (Stored from n) = part (t .store) from (from + n)
-shownBytes t default Default = default
-shownBytes t default Front = []
+-- `read`
+unfoldable pub stateOf : Query → Table → State
+stateOf y t = stateWith (badSize t) y t
+
+-- the bytes that are shown, of the store or of the caller's default body
+unfoldable pub shownBytes : (store default : List ℕ) → Shown → List ℕ
+shownBytes store default (Stored from n) = part store from (from + n)
+shownBytes store default Default = default
+shownBytes store default Front = []

@@ -1,49 +1,58 @@
--- A run: open any number of records, add addresses, then send inputs; the answers, and the table at the end.
-use Prim.Native.Nat.{ℕ, _*_}
+-- A run: a table is lent to `open`, entries are given to `add`, then inputs are sent to `handle`, each with an answer buffer of its
+-- own. What it gives: each input with its answer, and the table at the end.
+use Prim.Native.Nat.{ℕ}
 use mathlib.Core.List.{List, [], _∷_}
-use lib.ListN.{replicate, take}
-use Rattle.record.specs.Places.{emptyRecord}
+use lib.ListN.{take}
 use Rattle.table.specs.Table.{Table}
 use Rattle.table.specs.Open.{opened}
 use Rattle.table.specs.Add.{Entry, added}
 use Rattle.table.specs.Handle.{Input, Done, done}
 use Rattle.table.specs.declared.Handled.{Handled}
 
--- an answer: what came back, and the message's bytes
+-- one sending: an input (clock, To number, request bytes), and the answer buffer that is lent for it
+pub record Sending : Type 0 where
+  pub input : Input
+  pub buffer : List ℕ
+
+-- an answer: outcome and length, and the message's bytes
 pub record Answer : Type 0 where
   pub handled : Handled
   pub message : List ℕ
 
--- the answers, and the table after them
-pub record Ran : Type 0 where
-  pub answers : List Answer
+-- an input, and the answer to it
+pub record Exchange : Type 0 where
+  pub input : Input
+  pub answer : Answer
+
+-- each input with its answer, in their order, and the table at the end
+pub record Given : Type 0 where
+  pub exchanges : List Exchange
   pub table : Table
 
--- so many records, and the store that goes with them, opened
-unfoldable pub openTable : ℕ → Table
-openTable n = opened (record { records = replicate n emptyRecord; store = replicate (4096 * n) 0 }) .table
-
--- a list of addresses added, one after the other; refused ones are allowed
+-- entries given to `add`, one after the other; refused ones are allowed
 unfoldable pub addAll : List Entry → Table → Table
 addAll [] t = t
 addAll (e ∷ es) t = addAll es (added e t .table)
-
--- the answer buffer that is lent
-unfoldable pub lentBuffer : List ℕ
-lentBuffer = replicate 4608 0
 
 -- the answer in what a call settled
 unfoldable pub answerIn : Done → Answer
 answerIn d = record { handled = d .handled; message = take (d .handled .length) (d .buffer) }
 
-unfoldable pub withAnswer : Answer → Ran → Ran
-withAnswer a r = record { answers = a ∷ r .answers; table = r .table }
+-- one exchange more in front
+unfoldable pub inFrontOf : Exchange → Given → Given
+inFrontOf x g = record { exchanges = x ∷ g .exchanges; table = g .table }
 
--- a list of inputs, one after the other
-unfoldable pub sendAll : List Input → Table → Ran
-sendAll [] t = record { answers = []; table = t }
-sendAll (x ∷ xs) t = let d = done t lentBuffer x in withAnswer (answerIn d) (sendAll xs (d .table))
+-- sendings, one after the other: `handle` is given the table that the one before left
+unfoldable pub sendEach : List Sending → Table → Given
+sendEach [] t = record { exchanges = []; table = t }
+sendEach (x ∷ xs) t =
+    let d = done t (x .buffer) (x .input) in
+    inFrontOf (record { input = x .input; answer = answerIn d }) (sendEach xs (d .table))
+
+-- the table with which the sending begins: what was lent, opened, and the entries added
+unfoldable pub begun : Table → List Entry → Table
+begun lent es = addAll es (opened lent .table)
 
 -- a run
-unfoldable pub run : ℕ → List Entry → List Input → Ran
-run n es xs = sendAll xs (addAll es (openTable n))
+unfoldable pub ran : Table → List Entry → List Sending → Given
+ran lent es xs = sendEach xs (begun lent es)
