@@ -9,9 +9,9 @@ use Rattle.table.specs.Table.{badSize, placeFor, isKnown, recordAt, with
 use Rattle.table.specs.Open.{openRefusals, emptied, opened}
 use Rattle.table.specs.Add.{lowestUnused, addRefusals, freshRecord, added}
 use Rattle.table.specs.Handle.{caseOf, tableAfter, doneWith, done}
-use Rattle.table.specs.Read.{askedRecord, askedRows, readRefusals, bodyAt, newestBody, shownFor, stateWith, stateOf, shownBytes}
+use Rattle.table.specs.Read.{askedRecord, askedRows, readRefusals, bodyAt, newestBody, shownFor, stateWith, stateOf, shownBytes, readoutOf}
 use Rattle.table.specs.Run.{addAll, answerIn, inFrontOf, sendEach, begun, ran}
 
 unfoldable pub all-table : ℕ
-unfolding all-text all-tag all-request all-record all-publish badSize placeFor isKnown recordAt withRecord openRefusals emptied opened lowestUnused addRefusals freshRecord added caseOf tableAfter doneWith done askedRecord askedRows readRefusals bodyAt newestBody shownFor stateWith stateOf shownBytes addAll answerIn inFrontOf sendEach begun ran
+unfolding all-text all-tag all-request all-record all-publish badSize placeFor isKnown recordAt withRecord openRefusals emptied opened lowestUnused addRefusals freshRecord added caseOf tableAfter doneWith done askedRecord askedRows readRefusals bodyAt newestBody shownFor stateWith stateOf shownBytes readoutOf addAll answerIn inFrontOf sendEach begun ran
 all-table = 0

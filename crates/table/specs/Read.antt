@@ -68,3 +68,12 @@ unfoldable pub shownBytes : (store default : List ℕ) → Shown → List ℕ
 shownBytes store default (Stored from n) = part store from (from + n)
 shownBytes store default Default = default
 shownBytes store default Front = []
+
+-- what a caller is given: the result, and the bytes that are shown
+pub record Readout : Type 0 where
+  pub result : ℕ
+  pub bytes : List ℕ
+
+-- what a state gives
+unfoldable pub readoutOf : (store default : List ℕ) → State → Readout
+readoutOf store default s = record { result = s .result; bytes = shownBytes store default (s .shown) }

@@ -5,8 +5,10 @@ use Prim.Native.Nat.{ℕ}
 use Rattle.record.specs.declared.Record.{Record}
 use Rattle.table.specs.Open.{After}
 use Rattle.table.specs.Handle.{Done}
+use Rattle.table.specs.Read.{Readout}
 use Rattle.table.specs.declared.Handled.{Handled}
-use Rattle.windgusset.specs.Contracts.{OpenedAs, AddedAs, HandledAs}
+use Rattle.table.specs.declared.State.{State}
+use Rattle.windgusset.specs.Contracts.{OpenedAs, AddedAs, HandledAs, StateAs, ReadAs}
 
 -- two results with the records and the store that go with them
 pub record SameAfter (r r′ : ℕ) (rs rs′ : List Record) (ss ss′ : List ℕ) : Type 0 where
@@ -59,3 +61,21 @@ handle-once rs ss clock number request answer e f =
       store = ap (λ (x : Done). x .table .store) g;
       answer = ap (λ (x : Done). x .buffer) g;
     }
+
+-- `read_state` gives one state
+pub state-once : (rs : List Record) (ss address name : List ℕ) (clock : ℕ) {s s′ : State}
+    → StateAs rs ss address name clock s → StateAs rs ss address name clock s′ → s ≡ s′
+unfolding StateAs
+state-once rs ss address name clock e f = e ∙ sym f
+
+-- two results with the bytes that are shown
+pub record SameRead (r r′ : ℕ) (bs bs′ : List ℕ) : Type 0 where
+  pub result : r ≡ r′
+  pub shown : bs ≡ bs′
+
+-- `read` leaves one outcome
+pub read-once : (rs : List Record) (ss address name : List ℕ) (clock : ℕ) (default : List ℕ) {r r′ : ℕ} {bs bs′ : List ℕ}
+    → ReadAs rs ss address name clock default r bs → ReadAs rs ss address name clock default r′ bs′ → SameRead r r′ bs bs′
+unfolding ReadAs
+read-once rs ss address name clock default e f =
+    let g = e ∙ sym f in record { result = ap (λ (x : Readout). x .result) g; shown = ap (λ (x : Readout). x .bytes) g }

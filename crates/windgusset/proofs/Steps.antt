@@ -1,6 +1,7 @@
 -- Steps that every walk of this crate takes: operands, a call of a function by its contract, and a result that is known. They say nothing of the crate.
 --     slice, Bytes, Seen   a slice reference's machine value, and what a `&mut [u8]` and a `&[u8]` own
 --     var, part, behind    a local as an operand, a field of a local, and what a local slice points to. n is the local's place in the context
+--     calls-own            a call by its contract: the caller gets what the result owns, and all that calls-by gives
 --     calls-by             a call by its contract: the caller gets the tokens, the last values, the result's machine value, and the fact that the contract ensures
 --     landed               a result that is known lands as the machine value of what it is
 use mathlib.Core.Path.{_≡_, sym, ap, subst, _∙_}
@@ -17,7 +18,7 @@ use prog.Memory.{fieldOf}
 use prog.Wp.{Heap, Env, Calls, Loops, spotOf}
 use ghost.Atoms.{Atoms}
 use contract.Monad.{fact}
-use types.Kit.{Given, Item, Post, Seq, runs, lands, nth, ‵, raw, some, later, _⊛_, _$_, move, use1, split, pick, await}
+use types.Kit.{Given, Item, Post, Seq, runs, lands, nth, ‵, raw, some, later, _⊛_, _$_, move, drop, use1, split, pick, await}
 use types.Part.{Part, look-in}
 use types.Run.{Finds, Opd, Opds, look, stop, hop, fld, from, load}
 use sound.WpLaws.{FmC}
@@ -27,7 +28,7 @@ use denote.Builtin.{u8}
 use denote.Ref.{RefT, ptr, now}
 use denote.Signature.{typeAt}
 use denote.Slice.{sliceVal, slice-vals, MutSlice, ShrSlice}
-use denote.Steps.{only, facts, heard}
+use denote.Steps.{only, peeks, heard}
 use denote.Triple.Entry.{Res, alive}
 use denote.Triple.Spec.{tripleOf}
 use denote.Triple.Statement.{Triple}
@@ -56,18 +57,26 @@ module _ {M : Type 1} {𝓤 : URA M} {H : Heap 𝓤} {A : Atoms 𝓤} {K : Type 
   behind t n e p = from t (fld t e (hop t (look-in t n p) (stop t)))
 
   module _ {C : Calls 𝓤 H} {Λ : Loops 𝓤 H} {d : Place} {rest : Body} {to : Post 𝓤 H} where
+    pub calls-own : {f : Name} {xs : List Operand} → K → FmC 𝓤 H (W .laws) C → (T : Ended) (c : Clauses 𝓤 T) → Triple 𝓤 (C f) (tripleOf 𝓤 H A (T .signature) (closing 𝓤 H A T c)) → (y : tripleOf 𝓤 H A (T .signature) (closing 𝓤 H A T c) .Ghost)
+        (φ : Res (T .signature) (y .0 .0) → Lasts T (y .0 .0) (y .0 .3) → Type 0) → ((r : Res (T .signature) (y .0 .0)) (ws : Lasts T (y .0 .0) (y .0 .3)) → ent 𝓤 (c (y .0 .0) (y .0 .3) .ensures (y .1) r (atExit T (y .0 .0) (y .0 .3) ws)) (fact 𝓤 (φ r ws)))
+        → Opds K W (raw (tripleOf 𝓤 H A (T .signature) (closing 𝓤 H A T c) .pre y) ∷ Γ) E xs (tripleOf 𝓤 H A (T .signature) (closing 𝓤 H A T c) .args y)
+        → ((v : Val) (r : Res (T .signature) (y .0 .0)) (ws : Lasts T (y .0 .0) (y .0 .3)) → φ r ws → Is (typeAt (T .signature .result) (y .0 .0)) r (v ∷ [])
+        → Seq K W (raw (alive 𝓤 H A (T .signature) (y .0 .0) (y .0 .1)) ∷ ‵ (typeAt (T .signature .result) (y .0 .0) .own r (v ∷ [])) ∷ ‵ (lasts T (y .0 .0) (y .0 .3) ws) ∷ Γ) (lands C Λ E d v rest to))
+        → Seq K W (raw (tripleOf 𝓤 H A (T .signature) (closing 𝓤 H A T c) .pre y) ∷ Γ) (runs C Λ E (seq (call f xs d) rest) to)
+    calls-own t fm T c met y φ says os then =
+        let R : RattleType = typeAt (T .signature .result) (y .0 .0) in
+        calls-at t fm (tripleOf 𝓤 H A (T .signature) (closing 𝓤 H A T c)) met y os (λ v.
+        use1 W (later (some (λ (r : R .Denot). (raw (alive 𝓤 H A (T .signature) (y .0 .0) (y .0 .1)) ⊛ ‵ (R .own r (v ∷ []))) ⊛ some (λ (ws : Lasts T (y .0 .0) (y .0 .3)). ‵ (lasts T (y .0 .0) (y .0 .3) ws) ⊛ raw (c (y .0 .0) (y .0 .3) .ensures (y .1) r (atExit T (y .0 .0) (y .0 .3) ws)))))) (id⊢ 𝓤 _) $
+        await t tt $ pick t (λ r. split t $ move t (1 ∷ []) $ pick t (λ ws. split t $ move t (1 ∷ []) $ use1 W (raw (fact 𝓤 (φ r ws))) (says r ws) $ heard t (φ r ws) (λ e.
+        move t (1 ∷ []) $ split t $ move t (1 ∷ []) $ peeks t R (Is R) (shows 𝓤 H A R) r (v ∷ []) (λ g. move t (1 ∷ []) $ then v r ws e g)))))
+
     pub calls-by : {f : Name} {xs : List Operand} → K → FmC 𝓤 H (W .laws) C → (T : Ended) (c : Clauses 𝓤 T) → Triple 𝓤 (C f) (tripleOf 𝓤 H A (T .signature) (closing 𝓤 H A T c)) → (y : tripleOf 𝓤 H A (T .signature) (closing 𝓤 H A T c) .Ghost)
         (φ : Res (T .signature) (y .0 .0) → Lasts T (y .0 .0) (y .0 .3) → Type 0) → ((r : Res (T .signature) (y .0 .0)) (ws : Lasts T (y .0 .0) (y .0 .3)) → ent 𝓤 (c (y .0 .0) (y .0 .3) .ensures (y .1) r (atExit T (y .0 .0) (y .0 .3) ws)) (fact 𝓤 (φ r ws)))
         → Opds K W (raw (tripleOf 𝓤 H A (T .signature) (closing 𝓤 H A T c) .pre y) ∷ Γ) E xs (tripleOf 𝓤 H A (T .signature) (closing 𝓤 H A T c) .args y)
         → ((v : Val) (r : Res (T .signature) (y .0 .0)) (ws : Lasts T (y .0 .0) (y .0 .3)) → φ r ws → Is (typeAt (T .signature .result) (y .0 .0)) r (v ∷ [])
         → Seq K W (raw (alive 𝓤 H A (T .signature) (y .0 .0) (y .0 .1)) ∷ ‵ (lasts T (y .0 .0) (y .0 .3) ws) ∷ Γ) (lands C Λ E d v rest to))
         → Seq K W (raw (tripleOf 𝓤 H A (T .signature) (closing 𝓤 H A T c) .pre y) ∷ Γ) (runs C Λ E (seq (call f xs d) rest) to)
-    calls-by t fm T c met y φ says os then =
-        let R : RattleType = typeAt (T .signature .result) (y .0 .0) in
-        calls-at t fm (tripleOf 𝓤 H A (T .signature) (closing 𝓤 H A T c)) met y os (λ v.
-        use1 W (later (some (λ (r : R .Denot). (raw (alive 𝓤 H A (T .signature) (y .0 .0) (y .0 .1)) ⊛ ‵ (R .own r (v ∷ []))) ⊛ some (λ (ws : Lasts T (y .0 .0) (y .0 .3)). ‵ (lasts T (y .0 .0) (y .0 .3) ws) ⊛ raw (c (y .0 .0) (y .0 .3) .ensures (y .1) r (atExit T (y .0 .0) (y .0 .3) ws)))))) (id⊢ 𝓤 _) $
-        await t tt $ pick t (λ r. split t $ move t (1 ∷ []) $ pick t (λ ws. split t $ move t (1 ∷ []) $ use1 W (raw (fact 𝓤 (φ r ws))) (says r ws) $ heard t (φ r ws) (λ e.
-        move t (1 ∷ []) $ split t $ move t (1 ∷ []) $ facts t R (Is R) (shows 𝓤 H A R) r (v ∷ []) (λ g. then v r ws e g)))))
+    calls-by t fm T c met y φ says os then = calls-own t fm T c met y φ says os (λ v r ws e g. move t (1 ∷ []) $ drop t $ then v r ws e g)
 
     pub landed : K → (O : RattleType) (spell : O .Denot → List Val) → Tells O (Is O) spell → {r out : O .Denot} {v : Val} → r ≡ out → Is O r (v ∷ [])
         → (Is O out (spell out) → Seq K W Γ (lands C Λ E d (only (spell out)) rest to)) → Seq K W Γ (lands C Λ E d v rest to)

@@ -1,8 +1,9 @@
 // The public functions: they walk the lent slice of records.
 use record::Record;
 use table::Handled;
+use table::State;
 use table::opening::place_to_empty;
-ghost use Rattle.windgusset.specs.Contracts.{OpenedAs, AddedAs, HandledAs};
+ghost use Rattle.windgusset.specs.Contracts.{OpenedAs, AddedAs, HandledAs, StateAs, ReadAs};
 
 // All records emptied and the store zeroed, where their sizes allow it; where not, nothing is put.
 pub fn open(records: &mut [Record], store: &mut [u8]) -> u8
@@ -60,6 +61,40 @@ pub fn handle(
     let c = table::handling::handle_gathered(g, n, store, clock, number, request, answer);
     lent::put_if(records, c.index, c.kept);
     c.handled
+}
+
+// State read: the result, and where what is shown lies. Nothing is changed.
+pub fn read_state(
+    records: &[Record],
+    store: &[u8],
+    address: &[u8],
+    name: &[u8],
+    clock: u64,
+) -> State
+    ensures { λ r. ⌜ StateAs (now (records .entry)) (now (store .entry)) (now (address .entry)) (now (name .entry)) clock r ⌝ }
+{
+    let n = records.len();
+    let g = lent::gathered(records);
+    let size = store.len();
+    state::reading::state_gathered(g, n, size, address, name, clock)
+}
+
+// State read: the result is told, and what is shown is handed back as a part of the store or of the default.
+pub fn read<'a>(
+    records: &[Record],
+    store: &'a [u8],
+    address: &[u8],
+    name: &[u8],
+    clock: u64,
+    default: &'a [u8],
+    result: &mut u8,
+) -> &'a [u8]
+    ensures { λ r. ⌜ ReadAs (now (records .entry)) (now (store .entry)) (now (address .entry)) (now (name .entry)) clock
+        (now (default .entry)) (now (result .exit)) (now r) ⌝ }
+{
+    let n = records.len();
+    let g = lent::gathered(records);
+    state::shown::read_gathered(g, n, store, address, name, clock, default, result)
 }
 
 // The records and the result of `open` or `add` on sixteen records by value.
@@ -123,4 +158,33 @@ pub fn handle_sixteen(
         table: t,
         handled: handled,
     }
+}
+
+// `read_state` on sixteen records by value.
+pub fn read_state_sixteen(
+    rs: [Record; 16],
+    store: &[u8],
+    address: &[u8],
+    name: &[u8],
+    clock: u64,
+) -> State
+    ensures { λ r. ⌜ StateAs rs (now (store .entry)) (now (address .entry)) (now (name .entry)) clock r ⌝ }
+{
+    state::reading::state_gathered(rs, 16, store.len(), address, name, clock)
+}
+
+// `read` on sixteen records by value.
+pub fn read_sixteen<'a>(
+    rs: [Record; 16],
+    store: &'a [u8],
+    address: &[u8],
+    name: &[u8],
+    clock: u64,
+    default: &'a [u8],
+    result: &mut u8,
+) -> &'a [u8]
+    ensures { λ r. ⌜ ReadAs rs (now (store .entry)) (now (address .entry)) (now (name .entry)) clock
+        (now (default .entry)) (now (result .exit)) (now r) ⌝ }
+{
+    state::shown::read_gathered(rs, 16, store, address, name, clock, default, result)
 }
