@@ -4,6 +4,8 @@
 use crate::frames_in::Frame;
 use crate::handle::{handle, NoMessage, Written};
 use crate::message::LEAST_ANSWER_BUFFER;
+use crate::read_state::{state_shown, NotShown, Shown};
+use crate::reading_in::Reading;
 use crate::table::{add, open, Record, MOST_RECORDS, PART_SIZE};
 
 pub const TO_NUMBER: u32 = 1;
@@ -67,6 +69,18 @@ impl Bench {
             )),
             Frame::Request { clock, request } => self.request(*clock, request),
         }
+    }
+
+    /// Reads state, which the witness does between the bench's frames.
+    pub fn read(&mut self, reading: &Reading) -> Result<Shown, NotShown> {
+        self.mark_buffer();
+        state_shown(
+            &self.records,
+            &self.store,
+            &reading.address,
+            &reading.package,
+            reading.clock,
+        )
     }
 
     fn request(&mut self, clock: u64, request: &[u8]) -> Outcome {

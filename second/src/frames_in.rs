@@ -4,7 +4,8 @@
 use std::io::{self, BufRead};
 
 pub const MOST_DIGITS: usize = 8210;
-const LEAST_BYTES: usize = 9;
+/// The bytes before an address or a request.
+pub const LEAST_BYTES: usize = 9;
 
 #[derive(Clone, Debug, PartialEq, Eq)]
 pub enum Frame {
@@ -48,10 +49,13 @@ pub fn next_line<R: BufRead>(input: &mut R) -> io::Result<Option<Vec<u8>>> {
 }
 
 pub fn read_frame(line: &[u8]) -> Frame {
-    match bytes_of_digits(line, MOST_DIGITS) {
-        Some(bytes) if bytes.len() >= LEAST_BYTES => built_frame(&bytes),
-        _ => Frame::Bad,
-    }
+    frame_bytes(line).map_or(Frame::Bad, |bytes| built_frame(&bytes))
+}
+
+/// The bytes of a line that can be a frame: not too many, and not too few for
+/// what stands before the rest.
+pub fn frame_bytes(line: &[u8]) -> Option<Vec<u8>> {
+    bytes_of_digits(line, MOST_DIGITS).filter(|bytes| bytes.len() >= LEAST_BYTES)
 }
 
 /// The bytes of an even number of digits, where there are not too many.

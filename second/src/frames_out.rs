@@ -1,5 +1,6 @@
 //! Building bench input: the bytes of a frame, and its line of hexadecimal.
 
+use crate::reading_in::Reading;
 use crate::text::hex;
 
 pub fn add_frame(start: u32, spent: u32, address: &[u8]) -> Vec<u8> {
@@ -14,6 +15,18 @@ pub fn request_frame(clock: u64, request: &[u8]) -> Vec<u8> {
     let mut frame = vec![1];
     frame.extend_from_slice(&clock.to_be_bytes());
     frame.extend_from_slice(request);
+    frame
+}
+
+/// The address and the package have at most 255 bytes each.
+pub fn reading_frame(reading: &Reading) -> Vec<u8> {
+    let mut frame = vec![2];
+    frame.extend_from_slice(&reading.clock.to_be_bytes());
+    for name in [&reading.address, &reading.package] {
+        frame.push(name.len() as u8);
+        frame.extend_from_slice(name);
+    }
+    frame.extend_from_slice(&reading.default);
     frame
 }
 

@@ -16,14 +16,17 @@ pub enum Trouble {
 }
 
 pub fn print_listing<R: BufRead, W: Write>(input: &mut R, output: &mut W) -> Result<(), Trouble> {
-    print_with(input, output, |_, _| String::new())
+    print_with(input, output, |bench, line| {
+        format!("{}\n", listed(&bench.run(&read_frame(line))))
+    })
 }
 
-/// Prints the listing, with more text after the line of each input line.
+/// Prints a listing: for each input line its number, a space, and what is said
+/// of it.
 pub fn print_with<R: BufRead, W: Write>(
     input: &mut R,
     output: &mut W,
-    more: fn(&Bench, &Outcome) -> String,
+    said: fn(&mut Bench, &[u8]) -> String,
 ) -> Result<(), Trouble> {
     let mut bench = Bench::new();
     let mut line_number: u64 = 0;
@@ -32,12 +35,8 @@ pub fn print_with<R: BufRead, W: Write>(
         .map_err(Trouble::Output)?;
     while let Some(line) = next_line(input).map_err(Trouble::Input)? {
         line_number += 1;
-        let outcome = bench.run(&read_frame(&line));
-        let text = format!("{} {}\n", line_number, listed(&outcome));
+        let text = format!("{} {}", line_number, said(&mut bench, &line));
         output.write_all(text.as_bytes()).map_err(Trouble::Output)?;
-        output
-            .write_all(more(&bench, &outcome).as_bytes())
-            .map_err(Trouble::Output)?;
     }
     Ok(())
 }

@@ -121,10 +121,9 @@ pub fn part_mut(store: &mut [u8], r: usize) -> &mut [u8] {
     &mut store[PART_SIZE * r..PART_SIZE * (r + 1)]
 }
 
-/// The body of slot k of record r.
-pub fn body<'a>(records: &[Record], store: &'a [u8], r: usize, k: usize) -> &'a [u8] {
-    let place = BODY_SIZE * k;
-    &part(store, r)[place..place + records[r].slots[k].body_length]
+/// The place in the store where the body of slot k of record r begins.
+pub fn body_place(r: usize, k: usize) -> usize {
+    PART_SIZE * r + BODY_SIZE * k
 }
 
 pub fn is_well_formed(address: &[u8]) -> bool {

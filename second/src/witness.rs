@@ -1,19 +1,47 @@
-//! The witness listing: after each line of the bench listing, the message, the
-//! buffer past it, and every record in use with its slots and store.
+//! The witness listing: after each line of the bench listing, or what was shown
+//! of the state, the message, the buffer past it, and every record in use with
+//! its slots and store.
 
 use std::io::{BufRead, Write};
 
-use crate::bench::{Bench, Outcome};
-use crate::listing::{digits_of, print_with, Trouble};
+use crate::bench::Bench;
+use crate::listing::{digits_of, listed, print_with, Trouble};
+use crate::read_state::{NotShown, Shown};
+use crate::reading_in::Reading;
+use crate::results::DONE;
 use crate::table::{part, Record, Slot};
 use crate::text::{hex, hex_or_dash};
+use crate::turn::{take_turn, Turn};
 
 pub fn print_witness<R: BufRead, W: Write>(input: &mut R, output: &mut W) -> Result<(), Trouble> {
-    print_with(input, output, witness_lines)
+    print_with(input, output, |bench, line| {
+        let turn = take_turn(bench, line);
+        turn_lines(&turn) + &witness_lines(bench, turn.message_length())
+    })
 }
 
-pub fn witness_lines(bench: &Bench, outcome: &Outcome) -> String {
-    let (message, past) = bench.buffer.split_at(outcome.message_length());
+/// What is said of one input line, after its number.
+fn turn_lines(turn: &Turn) -> String {
+    match turn {
+        Turn::Bench(outcome) => format!("{}\n", listed(outcome)),
+        Turn::Read(reading, read) => read_lines(reading, read),
+        Turn::Lacking(_) => "bad\n".to_string(),
+    }
+}
+
+/// The result, and what is shown.
+fn read_lines(reading: &Reading, read: &Result<Shown, NotShown>) -> String {
+    let (result, shown) = match read {
+        Ok(Shown::Store { at, length }) => (DONE, format!("store {} {}", at, length)),
+        Ok(Shown::Default) => (DONE, format!("default {}", reading.default.len())),
+        Err(why) => (why.result(), "front".to_string()),
+    };
+    format!("read {}\n  shown {}\n", result, shown)
+}
+
+/// The message, the buffer past it, and the records in use.
+fn witness_lines(bench: &Bench, message_length: usize) -> String {
+    let (message, past) = bench.buffer.split_at(message_length);
     let mut text = format!("  answer {}\n", hex_or_dash(message));
     text.push_str(&format!("  past {}\n", checksum_text(past)));
     for (r, record) in bench.records.iter().enumerate() {

@@ -15,3 +15,4 @@ mod scripts;
 mod sizes;
 mod successes;
 mod table;
+mod witness_reading;
