@@ -62,8 +62,11 @@ fn said(lines: &[String]) -> Vec<String> {
     said.split_off(ADDED.len())
 }
 
-fn assert_said(lines: &[String], expected: &[&str]) {
-    assert_eq!(said(lines), expected);
+/// Input lines, each with what is said of it.
+fn assert_said(pairs: &[(String, &str)]) {
+    let lines: Vec<String> = pairs.iter().map(|(line, _)| line.clone()).collect();
+    let expected: Vec<&str> = pairs.iter().map(|&(_, said)| said).collect();
+    assert_eq!(said(&lines), expected);
 }
 
 #[test]
@@ -110,151 +113,101 @@ fn a_reading_at_the_end_frees_nothing() {
 
 #[test]
 fn a_publication_is_shown_while_the_clock_is_below_its_end() {
-    let lines = [
-        presence("ann", 100, 60, "", "first"),
-        read(100, "ann", "presence", "none"),
-        read(159, "ann", "presence", "none"),
-        read(160, "ann", "presence", "none"),
-        read(161, "ann", "presence", "none"),
-        read(1_000_000_000_000, "ann", "presence", "none"),
-    ];
-    let expected = [
-        "200 9e3779b9 60",
-        "read 0, store 0 5",
-        "read 0, store 0 5",
-        "read 0, default 4",
-        "read 0, default 4",
-        "read 0, default 4",
-    ];
-    assert_said(&lines, &expected);
+    assert_said(&[
+        (presence("ann", 100, 60, "", "first"), "200 9e3779b9 60"),
+        (read(100, "ann", "presence", "none"), "read 0, store 0 5"),
+        (read(159, "ann", "presence", "none"), "read 0, store 0 5"),
+        (read(160, "ann", "presence", "none"), "read 0, default 4"),
+        (read(161, "ann", "presence", "none"), "read 0, default 4"),
+        (
+            read(1_000_000_000_000, "ann", "presence", "none"),
+            "read 0, default 4",
+        ),
+    ]);
 }
 
 #[test]
 fn the_highest_body_number_is_shown() {
-    let lines = [
-        presence("ann", 100, 900, "", "first"),
-        presence("ann", 100, 60, "", "second"),
-        read(100, "ann", "presence", ""),
-        read(159, "ann", "presence", ""),
+    assert_said(&[
+        (presence("ann", 100, 900, "", "first"), "200 9e3779b9 900"),
+        (presence("ann", 100, 60, "", "second"), "200 3c6ef372 60"),
+        (read(100, "ann", "presence", ""), "read 0, store 512 6"),
+        (read(159, "ann", "presence", ""), "read 0, store 512 6"),
         // The newest has run out.
-        read(160, "ann", "presence", ""),
+        (read(160, "ann", "presence", ""), "read 0, store 0 5"),
         // Modified: the newest body is in the lower slot.
-        presence("ann", 101, 900, "9e3779b9", "the third"),
-        read(101, "ann", "presence", ""),
+        (
+            presence("ann", 101, 900, "9e3779b9", "the third"),
+            "200 daa66d2b 900",
+        ),
+        (read(101, "ann", "presence", ""), "read 0, store 0 9"),
         // Refreshed without a body: its body is no newer.
-        presence("ann", 102, 900, "3c6ef372", ""),
-        read(102, "ann", "presence", ""),
-    ];
-    let expected = [
-        "200 9e3779b9 900",
-        "200 3c6ef372 60",
-        "read 0, store 512 6",
-        "read 0, store 512 6",
-        "read 0, store 0 5",
-        "200 daa66d2b 900",
-        "read 0, store 0 9",
-        "200 78dde6e4 900",
-        "read 0, store 0 9",
-    ];
-    assert_said(&lines, &expected);
+        (
+            presence("ann", 102, 900, "3c6ef372", ""),
+            "200 78dde6e4 900",
+        ),
+        (read(102, "ann", "presence", ""), "read 0, store 0 9"),
+    ]);
 }
 
 #[test]
 fn the_place_counts_from_the_begin_of_the_store() {
     let dialog = "Event: dialog\nContent-Type: application/dialog-info+xml\n";
     let full = "b".repeat(512);
-    let lines = [
-        presence("bo", 7, 900, "", &full),
-        publish("bo", 7, dialog, "dd"),
-        presence("bo", 7, 900, "", "x"),
-        read(7, "bo", "dialog", "none"),
-        read(7, "bo", "presence", "none"),
-        presence("bo", 8, 0, "daa66d2c", ""),
-        read(8, "bo", "presence", "none"),
-    ];
-    let expected = [
-        "200 9e3779ba 900",
-        "200 3c6ef373 600",
-        "200 daa66d2c 900",
-        "read 0, store 4608 2",
-        "read 0, store 5120 1",
-        "200 78dde6e5 0",
-        "read 0, store 4096 512",
-    ];
-    assert_said(&lines, &expected);
+    assert_said(&[
+        (presence("bo", 7, 900, "", &full), "200 9e3779ba 900"),
+        (publish("bo", 7, dialog, "dd"), "200 3c6ef373 600"),
+        (presence("bo", 7, 900, "", "x"), "200 daa66d2c 900"),
+        (read(7, "bo", "dialog", "none"), "read 0, store 4608 2"),
+        (read(7, "bo", "presence", "none"), "read 0, store 5120 1"),
+        (presence("bo", 8, 0, "daa66d2c", ""), "200 78dde6e5 0"),
+        (read(8, "bo", "presence", "none"), "read 0, store 4096 512"),
+    ]);
 }
 
 #[test]
 fn with_none_live_the_whole_default_body() {
-    let lines = [
-        presence("ann", 100, 900, "", "first"),
-        read(100, "ann", "dialog", "none"),
-        read(100, "ann", "message-summary", ""),
-        read(0, "bo", "presence", &"d".repeat(600)),
-    ];
-    let expected = [
-        "200 9e3779b9 900",
-        "read 0, default 4",
-        "read 0, default 0",
-        "read 0, default 600",
-    ];
-    assert_said(&lines, &expected);
+    assert_said(&[
+        (presence("ann", 100, 900, "", "first"), "200 9e3779b9 900"),
+        (read(100, "ann", "dialog", "none"), "read 0, default 4"),
+        (read(100, "ann", "message-summary", ""), "read 0, default 0"),
+        (
+            read(0, "bo", "presence", &"d".repeat(600)),
+            "read 0, default 600",
+        ),
+    ]);
 }
 
 #[test]
 fn a_refusal_shows_the_empty_front() {
     let over = 1_000_000_000_001;
-    let lines = [
-        presence("ann", 100, 900, "", "first"),
-        read(over, "ann", "presence", "none"),
-        read(u64::MAX, "ann", "presence", ""),
-        read(100, "cy", "presence", "none"),
-        read(100, "Ann", "presence", "none"),
-        read(100, "ann\0", "presence", "none"),
-        read(100, "", "presence", "none"),
-        read(100, "ann", "Presence", "none"),
-        read(100, "ann", "presence;id=1", "none"),
-        read(100, "ann", "presence ", "none"),
-        read(100, "ann", "", "none"),
-        read(99, "ann", "presence", "none"),
-        read(99, "ann", "dialog", ""),
-        read(99, "bo", "presence", "none"),
-    ];
-    let expected = [
-        "200 9e3779b9 900",
-        "read 4, front",
-        "read 4, front",
-        "read 10, front",
-        "read 10, front",
-        "read 10, front",
-        "read 10, front",
-        "read 10, front",
-        "read 10, front",
-        "read 10, front",
-        "read 10, front",
-        "read 11, front",
-        "read 11, front",
-        "read 0, default 4",
-    ];
-    assert_said(&lines, &expected);
+    assert_said(&[
+        (presence("ann", 100, 900, "", "first"), "200 9e3779b9 900"),
+        (read(over, "ann", "presence", "none"), "read 4, front"),
+        (read(u64::MAX, "ann", "presence", ""), "read 4, front"),
+        (read(100, "cy", "presence", "none"), "read 10, front"),
+        (read(100, "Ann", "presence", "none"), "read 10, front"),
+        (read(100, "ann\0", "presence", "none"), "read 10, front"),
+        (read(100, "", "presence", "none"), "read 10, front"),
+        (read(100, "ann", "Presence", "none"), "read 10, front"),
+        (read(100, "ann", "presence;id=1", "none"), "read 10, front"),
+        (read(100, "ann", "presence ", "none"), "read 10, front"),
+        (read(100, "ann", "", "none"), "read 10, front"),
+        (read(99, "ann", "presence", "none"), "read 11, front"),
+        (read(99, "ann", "dialog", ""), "read 11, front"),
+        (read(99, "bo", "presence", "none"), "read 0, default 4"),
+    ]);
 }
 
 #[test]
 fn the_first_refusal_that_applies_is_given() {
     let over = 1_000_000_000_001;
-    let lines = [
-        presence("ann", 100, 900, "", "first"),
-        read(over, "cy", "Presence", "none"),
-        read(99, "cy", "presence", "none"),
-        read(99, "ann", "Presence", "none"),
-    ];
-    let expected = [
-        "200 9e3779b9 900",
-        "read 4, front",
-        "read 10, front",
-        "read 10, front",
-    ];
-    assert_said(&lines, &expected);
+    assert_said(&[
+        (presence("ann", 100, 900, "", "first"), "200 9e3779b9 900"),
+        (read(over, "cy", "Presence", "none"), "read 4, front"),
+        (read(99, "cy", "presence", "none"), "read 10, front"),
+        (read(99, "ann", "Presence", "none"), "read 10, front"),
+    ]);
 }
 
 /// A frame with clock 0 and these bytes after it.
@@ -264,7 +217,7 @@ fn frame(rest: &str) -> String {
 
 #[test]
 fn frames_that_are_not_whole_are_bad() {
-    let lines = [
+    let bad = [
         "02".to_string(),
         "0200000000000000".to_string(),
         frame(""),
@@ -274,25 +227,9 @@ fn frames_that_are_not_whole_are_bad() {
         frame("03616e6e"),
         frame("03616e6e0264"),
         frame("03616e6eff6469616c6f67"),
-        frame("03616e6e066469616c6f67"),
-        frame("0000"),
     ];
-    let expected = [
-        "bad",
-        "bad",
-        "bad",
-        "bad",
-        "bad",
-        "bad",
-        "bad",
-        "bad",
-        "bad",
-        "read 0, default 0",
-        "read 10, front",
-    ];
-    assert_said(&lines, &expected);
-    for line in &lines[..9] {
-        let printed = witness(&[line.clone()]);
+    for line in bad {
+        let printed = witness(&[line]);
         let expected = "
 3 bad
   answer -
@@ -307,14 +244,20 @@ fn frames_that_are_not_whole_are_bad() {
 }
 
 #[test]
+fn frames_that_are_just_whole() {
+    assert_said(&[
+        (frame("03616e6e066469616c6f67"), "read 0, default 0"),
+        (frame("0000"), "read 10, front"),
+    ]);
+}
+
+#[test]
 fn above_8210_digits_is_bad_here_too() {
     // 9 bytes, then 1 + 3 for the address and 1 + 6 for the package.
     let most = 4105 - 9 - 4 - 7;
-    let lines = [
-        read(0, "ann", "dialog", &"d".repeat(most)),
-        read(0, "ann", "dialog", &"d".repeat(most + 1)),
-    ];
-    assert_said(&lines, &["read 0, default 4085", "bad"]);
+    let longest = read(0, "ann", "dialog", &"d".repeat(most));
+    let longer = read(0, "ann", "dialog", &"d".repeat(most + 1));
+    assert_said(&[(longest, "read 0, default 4085"), (longer, "bad")]);
 }
 
 #[test]
