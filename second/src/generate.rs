@@ -12,6 +12,7 @@ pub mod requests;
 mod scene;
 mod script_faults;
 pub mod scripts;
+mod special;
 mod steps;
 mod values;
 mod world;
@@ -20,8 +21,7 @@ use std::io::{self, Write};
 
 use crate::bench::Outcome;
 use crate::frames_out::add_frame;
-use crate::packages;
-use crate::table::{CLOCK_LIMIT, MOST_RECORDS, SLOTS};
+use crate::table::MOST_RECORDS;
 use crate::tags::STEP;
 use attempt::{Attempt, Wish};
 use faults::Fault;
@@ -134,11 +134,11 @@ impl Generator {
             Idea::Initial => Attempt::initial(world, random).frame(),
             Idea::Refresh => Attempt::matching(world, random, |wish, _| wish).frame(),
             Idea::Modify => Attempt::matching(world, random, Wish::with_body).frame(),
-            Idea::Remove => remove(world, random).frame(),
-            Idea::InitialOfZero => initial_of_zero(world, random).frame(),
-            Idea::Crowd => crowd(world, random).frame(),
-            Idea::Spent => spent(world, random).frame(),
-            Idea::Late => late(world, random).frame(),
+            Idea::Remove => special::remove(world, random).frame(),
+            Idea::InitialOfZero => special::initial_of_zero(world, random).frame(),
+            Idea::Crowd => special::crowd(world, random).frame(),
+            Idea::Spent => special::spent(world, random).frame(),
+            Idea::Late => special::late(world, random).frame(),
             Idea::Mutated => lines::mutated(world, random),
             Idea::MostHeaderLines => lines::most_header_lines(world, random),
             Idea::LongestRequest => lines::longest_request(world, random),
@@ -190,108 +190,6 @@ fn planned_addresses(random: &mut Random) -> Vec<Vec<u8>> {
     random.shuffle(&mut planned[..EARLY]);
     planned.reverse();
     planned
-}
-
-/// Removal, with a body now and then.
-fn remove(world: &World, random: &mut Random) -> Attempt {
-    Attempt::matching(world, random, |wish, random| {
-        let wish = match random.one_in(3) {
-            true => wish.with_body(random),
-            false => wish,
-        };
-        wish.of_zero(random)
-    })
-}
-
-fn initial_of_zero(world: &World, random: &mut Random) -> Attempt {
-    match world.with_room(random) {
-        Some((r, clock)) => {
-            let wish = Wish::initial(random).of_zero(random);
-            Attempt::new(world, r, clock, &wish, random)
-        }
-        None => Attempt::initial(world, random),
-    }
-}
-
-/// Fills one address, then tries a ninth: with all eight live, with one of
-/// them just run out, and in ways that need no room.
-fn crowd(world: &World, random: &mut Random) -> Attempt {
-    let r = match world.find(CROWD) {
-        Some(r) => r,
-        None => return Attempt::initial(world, random),
-    };
-    let record = world.record(r);
-    let live: Vec<_> = record.live(record.latest).collect();
-    let mut wish = Wish::initial(random);
-    let most = u64::from(packages::MOST[wish.package]);
-    wish.expires = Some((600 + random.below(most - 599)).to_string());
-    let soon = record.latest + random.below(4);
-    let least_end = match live.iter().map(|(_, slot)| slot.end).min() {
-        Some(end) if live.len() == SLOTS => end,
-        _ => return Attempt::new(world, r, soon, &wish, random),
-    };
-    let clock = match random.below(8) {
-        0 => least_end,
-        1 => least_end + 1,
-        2 | 3 => least_end - 1,
-        4 => {
-            let (k, _) = *random.pick(&live);
-            wish = Wish::refresh(world, r, k, random);
-            record.latest
-        }
-        5 => {
-            wish = wish.of_zero(random);
-            record.latest
-        }
-        _ => soon.min(least_end - 1),
-    };
-    let mut attempt = Attempt::new(world, r, clock, &wish, random);
-    if random.one_in(8) {
-        faults::one_more(&mut attempt, world, random);
-    }
-    attempt
-}
-
-/// An address without a tag left: a fresh publication, or one it has still,
-/// now and then with a fault besides.
-fn spent(world: &World, random: &mut Random) -> Attempt {
-    let none_left = world.those(|record| record.spent == u32::MAX);
-    let full = world.find(FULL).filter(|_| random.one_in(2));
-    let r = match full.or_else(|| random.pick_any(&none_left)) {
-        Some(r) => r,
-        None => return Attempt::initial(world, random),
-    };
-    let record = world.record(r);
-    let live: Vec<usize> = record.live(record.latest).map(|(k, _)| k).collect();
-    let wish = match random.pick_any(&live) {
-        Some(k) if full.is_none() && random.one_in(2) => Wish::refresh(world, r, k, random),
-        _ => Wish::initial(random),
-    };
-    let mut attempt = Attempt::new(world, r, record.latest, &wish, random);
-    if record.spent == u32::MAX && random.one_in(4) {
-        faults::one_more(&mut attempt, world, random);
-    }
-    attempt
-}
-
-/// The address whose clock is at the limit, or soon will be.
-fn late(world: &World, random: &mut Random) -> Attempt {
-    let r = match world.find(LATE) {
-        Some(r) => r,
-        None => return Attempt::initial(world, random),
-    };
-    let record = world.record(r);
-    let clock = CLOCK_LIMIT - random.pick(&[0, 0, 0, 1, 60, 3600]);
-    let live: Vec<usize> = record.live(clock).map(|(k, _)| k).collect();
-    let wish = match random.pick_any(&live) {
-        Some(k) if random.one_in(2) => Wish::refresh(world, r, k, random),
-        _ => Wish::initial(random),
-    };
-    let wish = match random.one_in(3) {
-        true => wish.of_zero(random),
-        false => wish,
-    };
-    Attempt::new(world, r, clock, &wish, random)
 }
 
 pub fn print_frames<W: Write>(seed: u64, lines: u64, output: &mut W) -> io::Result<()> {
