@@ -1,5 +1,6 @@
 //! How often a run of frames reached each row: of the results, the refusals,
-//! the kinds of success and the results of adding.
+//! the kinds of success, the results of adding and those of reading state; and
+//! how often each kind of reading.
 
 use std::io::{self, Write};
 
@@ -7,12 +8,17 @@ use crate::bench::Outcome;
 use crate::generate::Generator;
 use crate::handle::NoMessage;
 use crate::message::Answer;
+use crate::read_state::{NotShown, Shown};
+use crate::reading_in::Lack;
+use crate::reading_kinds::{Case, KINDS};
 use crate::refusals::Refusal;
 use crate::request::{Name, Unreadable};
 use crate::success::Kind;
+use crate::turn::Turn;
 
-/// The rows that the bench can reach, in the order of the paper.
-pub const REACHABLE: [&str; 51] = [
+/// The rows that a frame can reach, in the order of the paper. A frame is
+/// counted in one of them; those of reading state are bad to the bench.
+pub const REACHABLE: [&str; 61] = [
     "none-4-clock",
     "none-6-first-line",
     "none-6-header-line",
@@ -64,13 +70,33 @@ pub const REACHABLE: [&str; 51] = [
     "add-8",
     "add-9",
     "bad",
+    "read-0-store",
+    "read-0-default",
+    "read-4",
+    "read-10-address",
+    "read-10-package",
+    "read-11",
+    "read-bad-no-lengths",
+    "read-bad-address-past-end",
+    "read-bad-one-length",
+    "read-bad-package-past-end",
 ];
 
 /// Rows that no frame reaches: the bench's sizes are fixed, and a table opened
 /// afresh stays sound.
-pub const UNREACHABLE: [&str; 6] = ["none-1", "none-2", "none-3", "none-5", "add-2", "add-5"];
+pub const UNREACHABLE: [&str; 8] = [
+    "none-1", "none-2", "none-3", "none-5", "add-2", "add-5", "read-2", "read-5",
+];
 
-pub fn row(outcome: &Outcome) -> &'static str {
+pub fn row(turn: &Turn) -> &'static str {
+    match turn {
+        Turn::Bench(outcome) => bench_row(outcome),
+        Turn::Read(_, read) => read_row(read),
+        Turn::Lacking(lack) => lacking_row(*lack),
+    }
+}
+
+fn bench_row(outcome: &Outcome) -> &'static str {
     match outcome {
         Outcome::Bad => "bad",
         Outcome::Added(result) => added_row(*result),
@@ -164,20 +190,54 @@ fn success_row(kind: Kind) -> &'static str {
     }
 }
 
-/// The rows that the generated lines reach, in the order of `REACHABLE`.
+fn read_row(read: &Result<Shown, NotShown>) -> &'static str {
+    match read {
+        Ok(Shown::Store { .. }) => "read-0-store",
+        Ok(Shown::Default) => "read-0-default",
+        Err(NotShown::WrongSizes) => "read-2",
+        Err(NotShown::ClockAboveLimit) => "read-4",
+        Err(NotShown::NotSound) => "read-5",
+        Err(NotShown::AddressNotKnown) => "read-10-address",
+        Err(NotShown::PackageNotKnown) => "read-10-package",
+        Err(NotShown::ClockBelowLatest) => "read-11",
+    }
+}
+
+fn lacking_row(lack: Lack) -> &'static str {
+    match lack {
+        Lack::AddressLength => "read-bad-no-lengths",
+        Lack::Address => "read-bad-address-past-end",
+        Lack::PackageLength => "read-bad-one-length",
+        Lack::Package => "read-bad-package-past-end",
+    }
+}
+
+/// The rows that the generated lines reach, in the order of `REACHABLE`, then
+/// the kinds of reading.
 pub fn counts(seed: u64, lines: u64) -> Vec<(&'static str, u64)> {
-    let mut counts: Vec<_> = REACHABLE.iter().map(|&name| (name, 0)).collect();
+    let mut rows: Vec<_> = REACHABLE.iter().map(|&name| (name, 0)).collect();
+    let mut kinds: Vec<_> = KINDS.iter().map(|&(name, _)| (name, 0)).collect();
     let mut generator = Generator::new(seed);
     for _ in 0..lines {
-        let (_, outcome) = generator.next_line();
-        let reached = row(&outcome);
-        for (name, count) in counts.iter_mut() {
-            if *name == reached {
-                *count += 1;
+        let (_, turn) = generator.next_line();
+        let reached = row(&turn);
+        for (name, count) in rows.iter_mut() {
+            *count += u64::from(*name == reached);
+        }
+        if let Turn::Read(reading, read) = &turn {
+            let records = generator.records();
+            let case = Case {
+                records,
+                reading,
+                read,
+            };
+            for ((_, test), (_, count)) in KINDS.iter().zip(kinds.iter_mut()) {
+                *count += u64::from(test(&case));
             }
         }
     }
-    counts
+    rows.extend(kinds);
+    rows
 }
 
 pub fn print_counts<W: Write>(seed: u64, lines: u64, output: &mut W) -> io::Result<()> {

@@ -8,6 +8,9 @@ mod lines;
 mod mutations;
 mod oddities;
 mod random;
+mod reading_aims;
+mod reading_names;
+mod readings;
 pub mod requests;
 mod scene;
 mod script_faults;
@@ -19,13 +22,15 @@ mod world;
 
 use std::io::{self, Write};
 
-use crate::bench::Outcome;
 use crate::frames_out::add_frame;
-use crate::table::MOST_RECORDS;
+use crate::table::{Record, MOST_RECORDS};
 use crate::tags::STEP;
+use crate::turn::Turn;
 use attempt::{Attempt, Wish};
 use faults::Fault;
 use random::Random;
+use reading_aims::must_wait;
+use readings::Want;
 use world::{World, CROWD, FULL, LATE};
 
 #[derive(Clone, Copy)]
@@ -48,10 +53,11 @@ enum Idea {
     PresentAddress,
     MalformedAddress,
     BadLine,
+    Reading,
 }
 
 /// How often each idea stands in the deck, besides each fault once.
-const IDEAS: [(Idea, usize); 19] = [
+const IDEAS: [(Idea, usize); 20] = [
     (Idea::OneFault(Fault::Cseq), 1),
     (Idea::OneFault(Fault::NoLivePublication), 2),
     (Idea::SeveralFaults, 7),
@@ -71,6 +77,7 @@ const IDEAS: [(Idea, usize); 19] = [
     (Idea::PresentAddress, 1),
     (Idea::MalformedAddress, 1),
     (Idea::BadLine, 2),
+    (Idea::Reading, 15),
 ];
 
 /// Addresses that are added early; the others come later.
@@ -80,6 +87,8 @@ pub struct Generator {
     random: Random,
     world: World,
     deck: Vec<Idea>,
+    /// What the next readings are to be.
+    readings: Vec<Want>,
     /// Frames that add the sixteen addresses, the next one last.
     planned: Vec<Vec<u8>>,
     last_line: Vec<u8>,
@@ -93,13 +102,14 @@ impl Generator {
             random,
             world: World::new(),
             deck: Vec::new(),
+            readings: Vec::new(),
             planned,
             last_line: Vec::new(),
         }
     }
 
     /// The next input line without its LF, and what the engine made of it.
-    pub fn next_line(&mut self) -> (Vec<u8>, Outcome) {
+    pub fn next_line(&mut self) -> (Vec<u8>, Turn) {
         let early = self.planned.len() > MOST_RECORDS - EARLY;
         let line = if early && self.random.one_in(2) {
             self.new_address()
@@ -107,9 +117,14 @@ impl Generator {
             let idea = self.deal();
             self.line_of(idea)
         };
-        let outcome = self.world.run(&line);
+        let turn = self.world.run(&line);
         self.last_line = line.clone();
-        (line, outcome)
+        (line, turn)
+    }
+
+    /// The records after the latest line.
+    pub fn records(&self) -> &[Record] {
+        self.world.records()
     }
 
     fn deal(&mut self) -> Idea {
@@ -129,6 +144,10 @@ impl Generator {
             Idea::NewAddress => return self.new_address(),
             Idea::Again => return self.last_line.clone(),
             Idea::BadLine => return lines::bad_line(world, random),
+            Idea::Reading => {
+                let want = deal_reading(&mut self.readings, world, random);
+                readings::frame(want, world, random)
+            }
             Idea::OneFault(fault) => faults::single(fault, world, random).frame(),
             Idea::SeveralFaults => faults::several(world, random).frame(),
             Idea::Initial => Attempt::initial(world, random).frame(),
@@ -156,6 +175,19 @@ impl Generator {
             None => add_frame(random.word() as u32, 0, &lines::new_address(random)),
         };
         lines::any_case_line(&frame, random)
+    }
+}
+
+/// Every kind of reading before one comes again; one that must wait for its
+/// time comes later.
+fn deal_reading(deck: &mut Vec<Want>, world: &World, random: &mut Random) -> Want {
+    loop {
+        let place = deck.iter().rposition(|&want| !must_wait(want, world));
+        if let Some(place) = place {
+            return deck.remove(place);
+        }
+        deck.extend(readings::ALL);
+        random.shuffle(deck);
     }
 }
 

@@ -15,6 +15,7 @@ pub mod packages;
 pub mod read_counts;
 pub mod read_state;
 pub mod reading_in;
+pub mod reading_kinds;
 pub mod reads;
 pub mod refusals;
 pub mod request;

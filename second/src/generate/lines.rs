@@ -143,8 +143,11 @@ pub fn bad_line(world: &World, random: &mut Random) -> Vec<u8> {
         2 => line.push(b'\r'),
         3 => line[place] = *random.pick(b"gG xX/:@`\x00\r\xff"),
         4 => line.truncate(random.place(18)),
-        5 => line.truncate(16),
-        6 => line[1] = *random.pick(b"23456789abcdefABCDEF"),
+        5 => {
+            line[1] = *random.pick(b"012");
+            line.truncate(16)
+        }
+        6 => line[1] = *random.pick(b"3456789abcdefABCDEF"),
         7 => line[0] = *random.pick(b"123456789abcdefABCDEF"),
         8 => line.resize(MOST_DIGITS + 1, b'0'),
         9 => line.resize(MOST_DIGITS + 2, b'0'),

@@ -46,16 +46,19 @@ pub fn crowd(world: &World, random: &mut Random) -> Attempt {
         Some(end) if live.len() == SLOTS => end,
         _ => return Attempt::new(world, r, soon, &wish, random),
     };
-    let clock = match random.below(8) {
+    let clock = match random.below(10) {
         0 => least_end,
         1 => least_end + 1,
         2 | 3 => least_end - 1,
-        4 => {
+        4 | 5 => {
             let (k, _) = *random.pick(&live);
             wish = Wish::refresh(world, r, k, random);
+            if random.one_in(3) {
+                wish = wish.with_body(random);
+            }
             record.latest
         }
-        5 => {
+        6 => {
             wish = wish.of_zero(random);
             record.latest
         }

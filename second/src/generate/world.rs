@@ -3,9 +3,10 @@
 
 use super::random::Random;
 use crate::bench::{Bench, Outcome};
-use crate::frames_in::read_frame;
 use crate::message::Answer;
+use crate::read_state::shown_slot;
 use crate::table::{record_of, Record, CLOCK_LIMIT, SLOTS};
+use crate::turn::{take_turn, Turn};
 
 /// The address that is kept full of publications.
 pub const CROWD: &[u8] = b"sip:crowd@board.example";
@@ -31,16 +32,16 @@ impl World {
     }
 
     /// Gives one input line to the engine and remembers the tag it gave.
-    pub fn run(&mut self, line: &[u8]) -> Outcome {
+    pub fn run(&mut self, line: &[u8]) -> Turn {
         let spent: Vec<u32> = self.records().iter().map(|record| record.spent).collect();
-        let outcome = self.bench.run(&read_frame(line));
-        if let Outcome::Answered(written) = outcome {
+        let turn = take_turn(&mut self.bench, line);
+        if let Turn::Bench(Outcome::Answered(written)) = turn {
             if let Answer::Ok(success) = written.answer {
                 let changed = (0..spent.len()).find(|&r| self.record(r).spent != spent[r]);
                 self.remember(changed.unwrap_or(0), success.tag);
             }
         }
-        outcome
+        turn
     }
 
     fn remember(&mut self, r: usize, tag: u32) {
@@ -89,14 +90,21 @@ impl World {
         None
     }
 
-    /// A publication that is live at its address's latest clock.
+    /// A publication that is live at its address's latest clock; now and then
+    /// one whose body is older than another's of its package.
     pub fn live_slot(&self, random: &mut Random) -> Option<(usize, usize)> {
-        let mut found = Vec::new();
+        let (mut found, mut older) = (Vec::new(), Vec::new());
         for r in self.ordinary() {
             let record = self.record(r);
-            found.extend(record.live(record.latest).map(|(k, _)| (r, k)));
+            for (k, slot) in record.live(record.latest) {
+                found.push((r, k));
+                if shown_slot(record, slot.package, record.latest) != Some(k) {
+                    older.push((r, k));
+                }
+            }
         }
-        random.pick_any(&found)
+        let older = random.pick_any(&older).filter(|_| random.one_in(3));
+        older.or_else(|| random.pick_any(&found))
     }
 
     /// A clock not below the latest: often near it, often near some end.

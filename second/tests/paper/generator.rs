@@ -1,11 +1,14 @@
-//! The generated frames: settled by their seed, and reaching every row.
+//! The generated frames: settled by their seed, and reaching every row and
+//! every kind of reading.
 
 use second::bench::{Bench, Outcome};
 use second::counts::{counts, print_counts, REACHABLE, UNREACHABLE};
-use second::frames_in::read_frame;
+use second::frames_in::{read_frame, MOST_DIGITS};
 use second::generate::{print_frames, Generator};
 use second::listing::{listed, print_listing};
+use second::reading_kinds::KINDS;
 use second::sound::all_sound;
+use second::turn::Turn;
 use std::collections::HashSet;
 
 fn frames(seed: u64, lines: u64) -> Vec<u8> {
@@ -30,19 +33,43 @@ fn every_line_is_one_line() {
 
 #[test]
 fn every_reachable_row_is_reached() {
-    for seed in 1..=8 {
+    for seed in 1..=10 {
         for (name, count) in counts(seed, 2000) {
-            assert!(count >= 15, "seed {}: {} {}", seed, name, count);
+            assert!(count >= 10, "seed {}: {} {}", seed, name, count);
         }
     }
 }
 
 #[test]
+fn about_a_seventh_of_the_lines_read_state() {
+    for seed in 1..=3 {
+        let lines = frames(seed, 2000);
+        let lines: Vec<&[u8]> = lines.split(|&byte| byte == b'\n').collect();
+        let readings = lines.iter().filter(|line| line.starts_with(b"02"));
+        assert!((200..=320).contains(&readings.count()));
+        let too_long = lines.iter().filter(|line| line.len() > MOST_DIGITS);
+        assert!(too_long.count() < 40);
+    }
+}
+
+#[test]
 fn every_line_is_counted_in_one_row() {
-    let total: u64 = counts(9, 1000).iter().map(|(_, count)| count).sum();
+    let counts = counts(9, 1000);
+    let rows = counts.iter().filter(|(name, _)| REACHABLE.contains(name));
+    let total: u64 = rows.map(|(_, count)| count).sum();
     assert_eq!(total, 1000);
-    let names: HashSet<&str> = REACHABLE.iter().chain(&UNREACHABLE).copied().collect();
-    assert_eq!(names.len(), REACHABLE.len() + UNREACHABLE.len());
+}
+
+fn names() -> Vec<&'static str> {
+    let kinds = KINDS.iter().map(|(name, _)| name);
+    let names = REACHABLE.iter().chain(kinds).chain(&UNREACHABLE);
+    names.copied().collect()
+}
+
+#[test]
+fn names_differ() {
+    let different: HashSet<&str> = names().into_iter().collect();
+    assert_eq!(different.len(), names().len());
 }
 
 #[test]
@@ -57,7 +84,12 @@ fn counts_are_a_name_and_a_number_a_line() {
         assert!(known, "{}", line);
         assert!(words[1] == "unreachable" || words[1].parse::<u64>().is_ok());
     }
-    assert_eq!(printed.lines().count(), REACHABLE.len() + UNREACHABLE.len());
+    let printed: Vec<&str> = printed.lines().collect();
+    let first_words: Vec<&str> = printed
+        .iter()
+        .map(|line| line.split(' ').next().unwrap())
+        .collect();
+    assert_eq!(first_words, names());
 }
 
 #[test]
@@ -65,8 +97,12 @@ fn the_engine_alongside_says_what_the_listing_says() {
     let mut generator = Generator::new(11);
     let mut expected = "publish bench\n".to_string();
     for number in 1..=1000 {
-        let (_, outcome) = generator.next_line();
-        expected.push_str(&format!("{} {}\n", number, listed(&outcome)));
+        let (_, turn) = generator.next_line();
+        let said = match turn {
+            Turn::Bench(outcome) => listed(&outcome),
+            _ => "bad".to_string(),
+        };
+        expected.push_str(&format!("{} {}\n", number, said));
     }
     let mut printed = Vec::new();
     print_listing(&mut &frames(11, 1000)[..], &mut printed).unwrap();
