@@ -6,6 +6,7 @@ mod eleven;
 mod generator;
 mod lives;
 mod order;
+mod reading_kinds;
 mod reading_state;
 mod readings;
 mod reads;
