@@ -1,5 +1,5 @@
-// The lent records and store: opening, adding, handling a request, reading state. The definitions stand in specs/; the code here is
-// given the records by value, and what it keeps is put back by the functions that walk the lent slice.
+// The lent records and store: opening, adding and handling a request, and what reading state comes back with. The definitions stand in
+// specs/; the code here is given the records by value, and what it keeps is put back by the functions that walk the lent slice.
 pub mod adding;
 pub mod finding;
 pub mod handling;
