@@ -4,9 +4,8 @@ use mathlib.Core.Bool.{Bool, true, false, _&&_, false≢true}
 use mathlib.Core.List.{List}
 use mathlib.Core.Logic.{_⊎_, inl, inr, ⊎-elim}
 use Prim.Native.Nat.{ℕ, _+_, _*_, _<_, _≤_}
-use native.Mathlib.Decide.{decLt}
 use native.Mathlib.Omega.{arith}
-use lib.ListN.{length, getD, List·getD-eq-default}
+use lib.ListN.{getD}
 use borrow.Author.Tests.{ltb-true, lt-ltb, le-ltb}
 use Rattle.laws.specs.Choose.{pick}
 use Rattle.laws.proofs.Tests.{and-left, and-right}
@@ -14,7 +13,7 @@ use Rattle.tag.specs.Given.{numberOfTag}
 use Rattle.tag.proofs.Tag.{tag-below}
 use Rattle.tag.proofs.Given.{number-only}
 use Rattle.record.specs.Packages.{packageAt, isListed}
-use Rattle.record.specs.Places.{freePlace, places, isWhole, slotsOf, occupied, isLive, live}
+use Rattle.record.specs.Places.{places, isWhole, slotsOf, occupied, isLive, live}
 use Rattle.record.specs.Address.{addressOf, hasAddress}
 use Rattle.record.specs.Sound.{latestClock, isSound}
 use Rattle.record.specs.After.{successNumber, givenTag, freedPlaces, isMatch, hasBody, writtenSlot, written, placesAfter, recordAfter, withBody, partAfter}
@@ -22,9 +21,9 @@ use Rattle.record.specs.declared.Slot.{Slot}
 use Rattle.record.specs.declared.Record.{Record}
 use Rattle.record.specs.declared.Success.{Success}
 use Rattle.record.proofs.StoreLaws.{placesIn-length, whole-slots}
-use Rattle.record.proofs.Places.{placeAt, slotsTaken, Apart, Came, places-back, those-agree, apart-after}
+use Rattle.record.proofs.Places.{placeAt, taken-below, slotsTaken, Apart, Came, places-back, those-agree, apart-after}
 use Rattle.record.proofs.Cleared.{inBody, cleared-at}
-use Rattle.record.proofs.Stands.{IsNew, IsOld, live-stays, freed-at, stands}
+use Rattle.record.proofs.Stands.{IsNew, IsOld, and-none, live-stays, freed-at, stands}
 use Rattle.record.proofs.SoundLaws.{SlotHolds, RecordHolds, sound-found, sound-tested}
 
 -- the places of the record after a success are the places after it
@@ -61,32 +60,22 @@ live-after x r = rw (places-after x r) (ap slotsOf (those-agree (isLive (x .cloc
         go false t = rw t
 
 -- byte j of the room of place k after a success: what was there, or was given, where it belongs to a body, and 0 elsewhere
-part-at : (x : Success) (r : Record) (body bs : List ℕ) (k j : ℕ) → j < 512
+pub byte-after : (x : Success) (r : Record) (body bs : List ℕ) (k j : ℕ) → j < 512
     → getD (partAfter x r body bs) (512 * k + j) 0
     ≡ pick (inBody (placeAt (placesAfter x r) k) j) (getD (withBody x r body bs) (512 * k + j) 0) 0
 unfolding partAfter
-part-at x r body bs k j h = cleared-at (placesAfter x r) (withBody x r body bs) k j h
+byte-after x r body bs k j h = cleared-at (placesAfter x r) (withBody x r body bs) k j h
 
 -- every byte outside an occupied slot's body is 0
 pub zero-outside : (x : Success) (r : Record) (body bs : List ℕ) (k j : ℕ) → j < 512
     → (placeAt (placesAfter x r) k .taken ≡ false) ⊎ (placeAt (placesAfter x r) k .slot .length ≤ j)
     → getD (partAfter x r body bs) (512 * k + j) 0 ≡ 0
-zero-outside x r body bs k j h out = part-at x r body bs k j h ∙ rw (outside out)
+zero-outside x r body bs k j h out = byte-after x r body bs k j h ∙ rw (outside out)
   where
-    none : (b : Bool) → (b && false) ≡ false
-    none true = refl
-    none false = refl
-
     outside : (placeAt (placesAfter x r) k .taken ≡ false) ⊎ (placeAt (placesAfter x r) k .slot .length ≤ j)
         → inBody (placeAt (placesAfter x r) k) j ≡ false
     outside (inl e) = rw e
-    outside (inr l) = rw (le-ltb j _ l) (none (placeAt (placesAfter x r) k .taken))
-
--- every byte of an occupied slot's body is as it was, with the body given put into its room
-pub body-inside : (x : Success) (r : Record) (body bs : List ℕ) (k j : ℕ) → j < 512 → placeAt (placesAfter x r) k .taken ≡ true
-    → j < placeAt (placesAfter x r) k .slot .length
-    → getD (partAfter x r body bs) (512 * k + j) 0 ≡ getD (withBody x r body bs) (512 * k + j) 0
-body-inside x r body bs k j h t l = part-at x r body bs k j h ∙ rw (t, lt-ltb j _ l)
+    outside (inr l) = rw (le-ltb j _ l) (and-none (placeAt (placesAfter x r) k .taken))
 
 -- a success leaves these as they are
 pub record Keeps (r r′ : Record) : Type 0 where
@@ -122,15 +111,8 @@ pick-holds P false m n h f = f refl
 -- a live place of a whole record is one of eight
 live-below : (clock : ℕ) (r : Record) (k : ℕ) → isWhole r ≡ true → isLive clock (placeAt (places r) k) ≡ true → k < 8
 unfolding isLive places
-live-below clock r k w e = go (decLt k 8)
-  where
-    go : Dec (k < 8) → k < 8
-    go (yes h) = h
-    go (no h) =
-        let size : length (places r) ≡ length (r .slots) = placesIn-length (r .map) (r .slots) in
-        let eight : length (r .slots) ≡ 8 = whole-slots r w in
-        let past : length (places r) ≤ k = omega arith in
-        absurd (false≢true (rw (List·getD-eq-default (places r) freePlace past) at e))
+live-below clock r k w e =
+    omega (arith, taken-below (places r) k (and-left _ _ e), placesIn-length (r .map) (r .slots), whole-slots r w)
 
 module _ (x : Success) (r : Record) (h : Rests x r) where
   -- the record before

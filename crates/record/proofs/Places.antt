@@ -3,10 +3,11 @@ use mathlib.Core.Path.{_≡_, refl, sym, _∙_, ap}
 use mathlib.Core.Bool.{Bool, true, false, not, false≢true}
 use mathlib.Core.List.{List, [], _∷_}
 use mathlib.Core.Logic.{_⊎_, inl, inr}
-use Prim.Native.Nat.{ℕ, zero, suc, _+_, _*_, _/_, _%_}
+use Prim.Native.Nat.{ℕ, zero, suc, _+_, _*_, _/_, _%_, _<_}
+use native.Mathlib.Decide.{decLt}
 use native.Mathlib.Omega.{arith}
 use lib.Dec.{eqb}
-use lib.ListN.{getD}
+use lib.ListN.{length, getD, List·getD-eq-default}
 use borrow.Author.Tests.{not-true, eqb-false, eq-eqb, ne-eqb}
 use Rattle.laws.specs.Choose.{pick}
 use Rattle.laws.specs.Lists.{every, pairwise, those}
@@ -17,6 +18,14 @@ use Rattle.record.specs.declared.Slot.{Slot}
 -- the place of that number; a free one past the end
 abbrev pub placeAt : List Place → ℕ → Place
 placeAt ps k = getD ps k freePlace
+
+-- an occupied place is there
+pub taken-below : (ps : List Place) (k : ℕ) → placeAt ps k .taken ≡ true → k < length ps
+taken-below ps k t = go (decLt k (length ps))
+  where
+    go : Dec (k < length ps) → k < length ps
+    go (yes h) = h
+    go (no h) = absurd (false≢true (rw (List·getD-eq-default ps freePlace {n = k} (omega arith)) at t))
 
 -- the slots of the occupied places
 abbrev pub slotsTaken : List Place → List Slot

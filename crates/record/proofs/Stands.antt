@@ -1,15 +1,15 @@
--- What stands at a place that is occupied after a success: what was written there, or what stood there before and still runs.
+-- What stands at each place after a success: what was written there, or what stood there before, freed where its end has come.
 use mathlib.Core.Path.{_≡_, refl, sym, _∙_, ap}
 use mathlib.Core.Bool.{Bool, true, false, _&&_, false≢true}
 use mathlib.Core.List.{List}
 use mathlib.Core.Logic.{_⊎_, inl, inr, ⊎-elim}
-use Prim.Native.Nat.{ℕ, _<_}
+use Prim.Native.Nat.{ℕ, _<_, _≤_}
 use native.Mathlib.Decide.{ℕ-discrete, decLt}
 use native.Mathlib.Omega.{arith}
 use lib.Dec.{eqb, ltb, leb}
 use lib.ListN.{length, set, List·getD-map}
 use lib.Seq.{getD-set-same, getD-set-other, set-out}
-use borrow.Author.Tests.{ltb-true, leb-false, eqb-false, lt-ltb, lt-leb}
+use borrow.Author.Tests.{ltb-true, leb-false, eqb-false, eq-eqb, ne-eqb, lt-ltb, lt-leb, le-leb}
 use Rattle.laws.specs.Choose.{pick}
 use Rattle.laws.proofs.Tests.{and-left, and-right, and-both, and-fails}
 use Rattle.record.specs.Places.{Place, freePlace, places, isLive}
@@ -34,6 +34,22 @@ live-stays clock p e =
     let h : clock < p .slot .end = ltb-true clock (p .slot .end) (and-right (p .taken) (ltb clock (p .slot .end)) e) in
     rw (and-left (p .taken) (ltb clock (p .slot .end)) e, lt-leb (p .slot .end) clock h)
 
+-- a slot whose end has come is freed
+pub run-out : (clock : ℕ) (p : Place) → p .taken ≡ true → p .slot .end ≤ clock → freed clock p ≡ freePlace
+unfolding freed
+run-out clock p t h = rw (t, le-leb (p .slot .end) clock h)
+
+-- with a test that fails, no other holds
+pub and-none : (b : Bool) → (b && false) ≡ false
+and-none true = refl
+and-none false = refl
+
+-- a place that is free, or whose end has not come, stays as it is
+pub place-stays : (clock : ℕ) (p : Place) → (p .taken ≡ false) ⊎ (clock < p .slot .end) → freed clock p ≡ p
+unfolding freed
+place-stays clock p (inl t) = rw t
+place-stays clock p (inr h) = rw (lt-leb (p .slot .end) clock h, and-none (p .taken))
+
 -- a slot that is not freed still runs
 taken-stays : (clock : ℕ) (p : Place) → freed clock p .taken ≡ true → isLive clock p ≡ true
 unfolding isLive freed
@@ -49,6 +65,34 @@ taken-stays clock p t = go (p .taken && leb (p .slot .end) clock) refl t
 pub freed-at : (x : Success) (r : Record) (k : ℕ) → placeAt (freedPlaces x r) k ≡ freed (x .clock) (placeAt (places r) k)
 unfolding freedPlaces freedAt freed
 freed-at x r k = List·getD-map (freed (x .clock)) (places r) k freePlace
+
+module _ (x : Success) (r : Record) where
+  -- where time is granted, the slot is occupied, with what is written to it
+  pub written-place : 0 < x .granted → writtenSlot x r < length (freedPlaces x r) → placeAt (placesAfter x r) (writtenSlot x r)
+      ≡ record { taken = true; slot = written x r (freed (x .clock) (placeAt (places r) (writtenSlot x r)) .slot) }
+  unfolding placesAfter writtenPlaces
+  written-place g h =
+      rw (ne-eqb (x .granted) 0 (omega arith), ← freed-at x r (writtenSlot x r))
+      (getD-set-same (freedPlaces x r) (writtenSlot x r) _ freePlace h)
+
+  -- where none is, a matched slot is freed
+  pub ended-place : x .granted ≡ 0 → isMatch x ≡ true → x .slot < length (freedPlaces x r) → placeAt (placesAfter x r) (writtenSlot x r) ≡ freePlace
+  unfolding placesAfter endedPlaces writtenSlot
+  ended-place g m h = rw (eq-eqb (x .granted) 0 g, m) (getD-set-same (freedPlaces x r) (x .slot) freePlace freePlace h)
+
+  -- every other place is as it was, freed where its end has come
+  pub other-place : (k : ℕ) → (k ≡ writtenSlot x r → ⊥) ⊎ ((x .granted ≡ 0) × (isMatch x ≡ false))
+      → placeAt (placesAfter x r) k ≡ freed (x .clock) (placeAt (places r) k)
+  unfolding placesAfter endedPlaces writtenPlaces writtenSlot
+  other-place k (inr (g, m)) = rw (eq-eqb (x .granted) 0 g, m) (freed-at x r k)
+  other-place k (inl n) = go (eqb (x .granted) 0) (isMatch x) refl ∙ freed-at x r k
+    where
+      go : (b m : Bool) → isMatch x ≡ m
+          → placeAt (pick b (pick (isMatch x) (set (freedPlaces x r) (x .slot) freePlace) (freedPlaces x r)) (writtenPlaces x r)) k
+          ≡ placeAt (freedPlaces x r) k
+      go true true e = rw e (getD-set-other (freedPlaces x r) (x .slot) k freePlace freePlace (rw e at n))
+      go true false e = rw e
+      go false m e = getD-set-other (freedPlaces x r) (writtenSlot x r) k _ freePlace n
 
 -- what was written stands at the place
 pub record IsNew (x : Success) (r : Record) (k : ℕ) : Type 0 where

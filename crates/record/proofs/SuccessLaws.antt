@@ -12,7 +12,7 @@ use borrow.Author.Tests.{eq-eqb, ne-eqb, lt-ltb, le-ltb, ltb-true}
 use Rattle.laws.specs.Choose.{pick}
 use Rattle.laws.specs.Lists.{part, putAt}
 use Rattle.laws.proofs.Tests.{and-left, and-right}
-use Rattle.laws.proofs.Parts.{part-length, put-length, put-part}
+use Rattle.laws.proofs.Parts.{part-length, part-at, put-length, put-part}
 use Rattle.record.specs.Map.{lowestFreeIn, withPlace, withoutPlace}
 use Rattle.record.specs.Places.{Place, zeroSlot, freePlace, places, placesIn, mapOf, slotsOf}
 use Rattle.record.specs.Store.{roomAt, partAt, partOf, withPart, cleared}
@@ -122,7 +122,7 @@ unfolding withBody hasBody
 body-put x r body s t i k l g e f = rw (lt-ltb 0 (x .length) l, lt-ltb 0 (x .granted) g, ← e) f
 
 -- a part has 4,096 bytes
-part-whole : (s : List ℕ) (i : ℕ) → 4096 * i + 4096 ≤ length s → length (partOf i s) ≡ 4096
+pub part-whole : (s : List ℕ) (i : ℕ) → 4096 * i + 4096 ≤ length s → length (partOf i s) ≡ 4096
 unfolding partOf partAt
 part-whole s i h = part-length s (4096 * i) (4096 * i + 4096) (omega arith) h ∙ omega arith
 
@@ -143,6 +143,18 @@ part-back : (s p : List ℕ) (i : ℕ) → length p ≡ 4096 → 4096 * i + 4096
 unfolding partOf withPart partAt
 part-back s p i e h =
     ap (λ (n : ℕ). part (putAt s (4096 * i) p) (4096 * i) (4096 * i + n)) (sym e) ∙ put-part s (4096 * i) p (omega arith)
+
+-- byte j of the 512 of slot k, in the part
+pub byte-of : (s : List ℕ) (i k j : ℕ) → k < 8 → j < 512 → getD (partOf i s) (512 * k + j) 0 ≡ getD s (4096 * i + 512 * k + j) 0
+unfolding partOf partAt
+byte-of s i k j h l =
+    let place : 4096 * i + (512 * k + j) ≡ 4096 * i + 512 * k + j = omega arith in
+    part-at s (4096 * i) (4096 * i + 4096) (512 * k + j) 0 (omega arith) ∙ rw place
+
+-- and in a store with that part put in
+pub byte-in : (s p : List ℕ) (i k j : ℕ) → length p ≡ 4096 → 4096 * i + 4096 ≤ length s → k < 8 → j < 512
+    → getD (withPart i p s) (4096 * i + 512 * k + j) 0 ≡ getD p (512 * k + j) 0
+byte-in s p i k j e h l m = rw (← byte-of (withPart i p s) i k j l m, part-back s p i e h)
 
 -- a part put in where another was
 part-again : (s p q : List ℕ) (i : ℕ) → length p ≡ 4096 → length q ≡ 4096 → 4096 * i + 4096 ≤ length s

@@ -35,7 +35,7 @@ presented-most r clock s h e k =
     omega (arith, placesIn-length (r .map) (r .slots), held-slots r e)
 
 -- the body is as long as it says
-body-size : (s : List ℕ) (h : Head) → length (body s h) ≡ bodyLength s h
+pub body-size : (s : List ℕ) (h : Head) → length (body s h) ≡ bodyLength s h
 unfolding body there
 body-size s h = part-size s (h .rest) (h .rest + bodyLength s h) ∙ omega (arith, body-there s h)
 

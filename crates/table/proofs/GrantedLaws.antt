@@ -17,12 +17,13 @@ use Rattle.request.specs.Head.{isReadable, methodOf, absent}
 use Rattle.request.specs.declared.Head.{Head}
 use Rattle.request.specs.Fields.{bodyLength, hasMatch}
 use Rattle.record.specs.Packages.{isListed}
-use Rattle.record.specs.Places.{Place, places, placesIn, isLive, live, lowestFree, matching}
+use Rattle.record.specs.Places.{freePlace, places, isLive, live, lowestFree, matching}
 use Rattle.record.specs.Sound.{latestClock}
 use Rattle.record.specs.After.{freedAt, freedPlaces, isMatch, writtenSlot}
 use Rattle.record.specs.declared.Record.{Record}
 use Rattle.record.specs.declared.Success.{Success}
 use Rattle.record.proofs.Places.{placeAt}
+use Rattle.record.proofs.StoreLaws.{placesIn-length}
 use Rattle.record.proofs.FreedLaws.{count-live}
 use Rattle.publish.specs.Outcomes.{isSuccess}
 use Rattle.publish.specs.Refusals.{Case, isBadSize, eventOf, granted, presented, isBadEvent, isUnmatched, isNothing, isFull, refusals, sizeRows, requestRows, readingRows, addressRows, contentRows, roomRows, outcomeOf}
@@ -142,14 +143,43 @@ module _ (c : Case) (g : Grants c) where
       go true m = let p : presented (c .own) (c .clock) (c .text) (c .head) < 8 = g .matched m in omega arith
       go false m = omega arith
 
-  -- the slot that is written is there
+  -- the slot that it presents is live
+  pub match-live : length (c .own .slots) ≡ 8 → hasMatch (c .head) ≡ true
+      → isLive (c .clock) (placeAt (places (c .own)) (presented (c .own) (c .clock) (c .text) (c .head))) ≡ true
+  unfolding presented matching places
+  match-live eight m =
+      let k = presented (c .own) (c .clock) (c .text) (c .head) in
+      let size : length (places (c .own)) ≡ length (c .own .slots) = placesIn-length (c .own .map) (c .own .slots) in
+      let there : k < length (places (c .own)) = omega (arith, g .matched m) in
+      and-left (isLive (c .clock) (placeAt (places (c .own)) k)) _ (place-holds _ (places (c .own)) freePlace there)
+
+  -- a slot is matched where a tag is presented
+  pub match-is : isMatch (successOf c) ≡ hasMatch (c .head)
+  unfolding successOf successFor isMatch
+  match-is = go (hasMatch (c .head)) refl
+    where
+      go : (b : Bool) → hasMatch (c .head) ≡ b → ltb (pick b (presented (c .own) (c .clock) (c .text) (c .head)) 8) 8 ≡ b
+      go true m = lt-ltb _ _ (g .matched m)
+      go false m = refl
+
+  -- the slot that is written is the one presented, and the lowest free one where none is
+  pub slot-is : writtenSlot (successOf c) (c .own)
+      ≡ pick (hasMatch (c .head)) (presented (c .own) (c .clock) (c .text) (c .head)) (lowestFree (freedAt (c .clock) (c .own)))
+  unfolding successOf successFor writtenSlot freedPlaces
+  slot-is = rw match-is (go (hasMatch (c .head)) _ _)
+    where
+      go : (b : Bool) (k n : ℕ) → pick b (pick b k 8) n ≡ pick b k n
+      go true k n = refl
+      go false k n = refl
+
+  -- it is there
   pub slot-there : length (freedAt (c .clock) (c .own)) ≡ 8 → 0 < successOf c .granted → writtenSlot (successOf c) (c .own) < 8
-  unfolding successOf successFor writtenSlot isMatch freedPlaces
-  slot-there eight lasts = go (hasMatch (c .head)) refl
+  unfolding successOf successFor
+  slot-there eight lasts = rw slot-is (go (hasMatch (c .head)) refl)
     where
       k : ℕ
       k = presented (c .own) (c .clock) (c .text) (c .head)
 
-      go : (b : Bool) → hasMatch (c .head) ≡ b → pick (ltb (pick b k 8) 8) (pick b k 8) (lowestFree (freedAt (c .clock) (c .own))) < 8
-      go true m = rw (lt-ltb k 8 (g .matched m)) (g .matched m)
+      go : (b : Bool) → hasMatch (c .head) ≡ b → pick b k (lowestFree (freedAt (c .clock) (c .own))) < 8
+      go true m = g .matched m
       go false m = free-place (c .clock) (c .own) eight (g .not-full m lasts)

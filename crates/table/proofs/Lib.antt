@@ -11,3 +11,6 @@ pub mod EarlyLaws
 pub mod CoreLaws
 pub mod AskLaws
 pub mod Fits
+pub mod AfterSuccess
+pub mod SlotLaws
+pub mod Success

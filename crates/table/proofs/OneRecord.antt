@@ -92,12 +92,12 @@ unfolding outcomeOf refusals requestRows sizeRows readingRows addressRows conten
 none-refusing c e = none-applied isSuccess (refusals c) _ refl e
 
 -- where a request succeeds, the sizes are good
-success-size : (t : Table) (buffer : List ℕ) (x : Input) → isSuccess (outcomeOf (caseOf t buffer x)) ≡ true → badSize t ≡ false
+pub success-size : (t : Table) (buffer : List ℕ) (x : Input) → isSuccess (outcomeOf (caseOf t buffer x)) ≡ true → badSize t ≡ false
 unfolding caseOf refusals sizeRows badSize
 success-size t buffer x e = none-refusing (caseOf t buffer x) e 1
 
 -- where a request succeeds, its address is in the table
-success-known : (t : Table) (buffer : List ℕ) (x : Input) → isSuccess (outcomeOf (caseOf t buffer x)) ≡ true
+pub success-known : (t : Table) (buffer : List ℕ) (x : Input) → isSuccess (outcomeOf (caseOf t buffer x)) ≡ true
     → placeFor (uriOf (x .request) (headOf (x .request))) t < length (t .records)
 unfolding caseOf refusals sizeRows requestRows readingRows addressRows isKnown
 success-known t buffer x e = ltb-true _ _ (not-false _ (none-refusing (caseOf t buffer x) e 8))

@@ -15,14 +15,14 @@ use Rattle.laws.proofs.Tests.{and-left, and-right, and-both, and-fails, same-tu
 use Rattle.laws.proofs.Rows.{none-refused}
 use Rattle.request.specs.Head.{headOf, uriOf}
 use Rattle.request.specs.Fields.{hasMatch, bodyLength}
-use Rattle.record.specs.Places.{emptyRecord, freePlace, occupied, places, placesIn, slotsOf, isLive, smaller, matching}
+use Rattle.record.specs.Places.{emptyRecord, occupied, places, placesIn, slotsOf, isLive, smaller}
 use Rattle.record.specs.Address.{isAddress, addressOf, sameAddress, isFor}
 use Rattle.record.specs.Sound.{slotsDiffer, isSound, addressesDiffer, allSound}
 use Rattle.record.specs.After.{recordAfter}
 use Rattle.record.specs.declared.Record.{Record}
 use Rattle.record.proofs.AddressLaws.{address-of, has-address}
 use Rattle.record.proofs.Places.{placeAt}
-use Rattle.record.proofs.StoreLaws.{placesIn-length, whole-slots}
+use Rattle.record.proofs.StoreLaws.{whole-slots}
 use Rattle.record.proofs.AfterLaws.{Rests, Keeps, keeps, sound-after}
 use Rattle.publish.specs.Outcomes.{isSuccess}
 use Rattle.publish.specs.Refusals.{Case, granted, presented, outcomeOf}
@@ -34,7 +34,7 @@ use Rattle.table.specs.Add.{Entry, added, addRefusals, lowestUnused, fre
 use Rattle.table.specs.Handle.{Input, done, doneWith, caseOf}
 use Rattle.table.proofs.Untouched.{leaves, add-leaves}
 use Rattle.table.proofs.OneRecord.{none-refusing-add, add-writes}
-use Rattle.table.proofs.GrantedLaws.{Grants, grants}
+use Rattle.table.proofs.GrantedLaws.{Grants, grants, match-live}
 use Rattle.table.proofs.Whole.{Holds, held-found, own-passes, records-after}
 
 -- emptied records are sound
@@ -167,7 +167,7 @@ smaller-most a b = go (ltb a b) refl
 -- where a request succeeds, it matched a live publication, or gives a body without presenting a tag
 matched-or-told : (c : Case) → Grants c → length (c .own .slots) ≡ 8
     → (isLive (c .clock) (placeAt (places (c .own)) (successOf c .slot)) ≡ true) ⊎ ((successOf c .slot ≡ 8) × (0 < successOf c .length))
-unfolding successOf successFor presented matching places
+unfolding successOf successFor
 matched-or-told c g eight = go (hasMatch (c .head)) refl
   where
     k : ℕ
@@ -175,10 +175,7 @@ matched-or-told c g eight = go (hasMatch (c .head)) refl
 
     go : (b : Bool) → hasMatch (c .head) ≡ b
         → (isLive (c .clock) (placeAt (places (c .own)) (pick b k 8)) ≡ true) ⊎ ((pick b k 8 ≡ 8) × (0 < bodyLength (c .text) (c .head)))
-    go true m =
-        let size : length (places (c .own)) ≡ length (c .own .slots) = placesIn-length (c .own .map) (c .own .slots) in
-        let there : k < length (places (c .own)) = omega (arith, g .matched m) in
-        inl (and-left (isLive (c .clock) (placeAt (places (c .own)) k)) _ (place-holds _ (places (c .own)) freePlace there))
+    go true m = inl (match-live c g eight m)
     go false m = inr (refl, g .told m)
 
 module _ (t : Table) (buffer : List ℕ) (x : Input) (h : every isHeld (t .records) ≡ true) (s : allSound (t .records) ≡ true) where

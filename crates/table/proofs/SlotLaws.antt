@@ -1,0 +1,107 @@
+-- The slot of a success and every other place of its record, as they stand after it.
+use mathlib.Core.Path.{_≡_, refl, _∙_}
+use mathlib.Core.Bool.{Bool, true, false}
+use mathlib.Core.List.{List}
+use mathlib.Core.Logic.{inl, inr}
+use Prim.Native.Nat.{ℕ, _+_, _<_}
+use native.Mathlib.Omega.{arith}
+use lib.ListN.{length}
+use borrow.Author.Tests.{lt-ltb, le-ltb}
+use Rattle.laws.specs.Lists.{every}
+use Rattle.request.specs.Head.{headOf, uriOf}
+use Rattle.request.specs.Fields.{hasMatch}
+use Rattle.request.specs.declared.Head.{Head}
+use Rattle.record.specs.Places.{freePlace, isWhole, places}
+use Rattle.record.specs.After.{successNumber, givenTag, freed, freedPlaces, isMatch, hasBody, writtenSlot, written, placesAfter}
+use Rattle.record.specs.declared.Record.{Record}
+use Rattle.record.specs.declared.Success.{Success}
+use Rattle.record.proofs.Places.{placeAt}
+use Rattle.record.proofs.StoreLaws.{freedAt-length, freedPlaces-length, whole-slots}
+use Rattle.record.proofs.Stands.{live-stays, written-place, ended-place, other-place}
+use Rattle.publish.specs.Outcomes.{isSuccess}
+use Rattle.publish.specs.Refusals.{outcomeOf}
+use Rattle.publish.specs.Step.{successFor, successOf}
+use Rattle.table.specs.Table.{Table, placeFor, recordAt}
+use Rattle.table.specs.Handle.{Input, caseOf}
+use Rattle.table.proofs.AfterSuccess.{time, size, slot, Other, holding}
+use Rattle.table.proofs.GrantedLaws.{Grants, grants, match-live, match-is, slot-is, slot-there}
+use Rattle.table.proofs.Whole.{own-passes}
+
+module _ (t : Table) (buffer : List ℕ) (x : Input) (w : every isWhole (t .records) ≡ true)
+    (e : isSuccess (outcomeOf (caseOf t buffer x)) ≡ true) where
+  abbrev pub i : ℕ
+  i = placeFor (uriOf (x .request) (headOf (x .request))) t
+
+  abbrev pub r : Record
+  r = recordAt t i
+
+  abbrev pub h : Head
+  h = headOf (x .request)
+
+  -- the success that the request is
+  abbrev pub y : Success
+  y = successFor r (x .clock) (x .request) h
+
+  -- its slot
+  abbrev pub k : ℕ
+  k = slot x i r
+
+  -- no refusal applied
+  pub g : Grants (caseOf t buffer x)
+  g = grants (caseOf t buffer x) e
+
+  pub eight-slots : length (r .slots) ≡ 8
+  unfolding caseOf
+  eight-slots = whole-slots r (own-passes t buffer x isWhole w e)
+
+  eight-places : length (freedPlaces y r) ≡ 8
+  eight-places = freedPlaces-length y r ∙ eight-slots
+
+  -- the slot is the one that is written
+  pub written-is : writtenSlot y r ≡ k
+  unfolding caseOf successOf
+  written-is = slot-is (caseOf t buffer x) g
+
+  matched-is : isMatch y ≡ hasMatch h
+  unfolding caseOf successOf
+  matched-is = match-is (caseOf t buffer x) g
+
+  -- and it is there
+  pub slot-fits : 0 < time x i r → k < 8
+  unfolding caseOf successOf successFor
+  slot-fits l = rw written-is at (slot-there (caseOf t buffer x) g (freedAt-length (x .clock) r ∙ eight-slots) l)
+
+  -- what stands at a place that is not written
+  pub other : (n : ℕ) → Other x i r n → placeAt (placesAfter y r) n ≡ freed (x .clock) (placeAt (places r) n)
+  unfolding successFor
+  other n (inl a) = other-place y r n (inl (λ q. a (q ∙ written-is)))
+  other n (inr a) = other-place y r n (inr (a .0, matched-is ∙ a .1))
+
+  -- what stands at the slot that is written
+  new : 0 < time x i r → placeAt (placesAfter y r) k ≡ record { taken = true; slot = written y r (freed (x .clock) (placeAt (places r) k) .slot) }
+  unfolding successFor
+  new l = rw written-is at (written-place y r l (omega (arith, written-is, slot-fits l, eight-places)))
+
+  -- with a body
+  pub new-body : 0 < time x i r → 0 < size x i r → placeAt (placesAfter y r) k ≡ holding x i r (size x i r) (r .spent + 1)
+  unfolding written hasBody givenTag successNumber successFor
+  new-body l b = new l ∙ rw (lt-ltb 0 (size x i r) b)
+
+  -- without one a live slot was matched, and it is not freed
+  not-freed : size x i r ≡ 0 → freed (x .clock) (placeAt (places r) k) ≡ placeAt (places r) k
+  unfolding caseOf
+  not-freed z = go (hasMatch h) refl
+    where
+      go : (b : Bool) → hasMatch h ≡ b → freed (x .clock) (placeAt (places r) k) ≡ placeAt (places r) k
+      go true m = rw m (live-stays (x .clock) _ (match-live (caseOf t buffer x) g eight-slots m))
+      go false m = absurd (omega (arith, g .told m))
+
+  pub old-body : 0 < time x i r → size x i r ≡ 0
+      → placeAt (placesAfter y r) k ≡ holding x i r (placeAt (places r) k .slot .length) (placeAt (places r) k .slot .number)
+  unfolding written hasBody givenTag successNumber successFor
+  old-body l z = new l ∙ rw (le-ltb 0 (size x i r) (omega arith), not-freed z)
+
+  -- granted 0
+  pub ended : time x i r ≡ 0 → hasMatch h ≡ true → placeAt (placesAfter y r) k ≡ freePlace
+  unfolding successFor caseOf
+  ended z m = rw written-is at (ended-place y r z (matched-is ∙ m) (rw (eight-places, m) (g .matched m)))
