@@ -20,7 +20,7 @@ use Rattle.publish.specs.declared.Outcome.{Outcome}
 use Rattle.publish.specs.declared.Outcome.the-variants.{Granted}
 use Rattle.table.specs.Handle.{Input}
 
-module _ (x : Input) (i : ℕ) (r : Record) where
+module _ (x : Input) where
   -- what the request's head says
   abbrev pub head : Head
   head = headOf (x .request)
@@ -33,68 +33,69 @@ module _ (x : Input) (i : ℕ) (r : Record) where
   abbrev pub size : ℕ
   size = bodyLength (x .request) head
 
-  -- with SIP-If-Match the same slot is kept; otherwise the lowest free slot is taken, once those are freed whose end has come
-  abbrev pub slot : ℕ
-  slot = pick (hasMatch head) (presented r (x .clock) (x .request) head) (lowestFree (freedAt (x .clock) r))
+  module _ (i : ℕ) (r : Record) where
+    -- with SIP-If-Match the same slot is kept; otherwise the lowest free slot is taken, once those are freed whose end has come
+    abbrev pub slot : ℕ
+    slot = pick (hasMatch head) (presented r (x .clock) (x .request) head) (lowestFree (freedAt (x .clock) r))
 
-  -- a place that is not written: another one than that slot, or any where an initial request takes none
-  abbrev pub Other : ℕ → Type 0
-  Other k = (k ≡ slot → ⊥) ⊎ ((time ≡ 0) × (hasMatch head ≡ false))
+    -- a place that is not written: another one than that slot, or any where an initial request takes none
+    abbrev pub Other : ℕ → Type 0
+    Other k = (k ≡ slot → ⊥) ⊎ ((time ≡ 0) × (hasMatch head ≡ false))
 
-  -- what is written: the request's package, the tag given, as end clock plus granted, and that body length and body number
-  abbrev pub holding : ℕ → ℕ → Place
-  holding length number =
-      record {
-        taken = true;
-        slot = record {
-          event = eventOf (x .request) head;
-          tag = tagOf (r .start) (r .spent + 1);
-          end = x .clock + time;
-          length = length;
-          number = number;
-        };
-      }
+    -- what is written: the request's package, the tag given, as end clock plus granted, and that body length and body number
+    abbrev pub holding : ℕ → ℕ → Place
+    holding length number =
+        record {
+          taken = true;
+          slot = record {
+            event = eventOf (x .request) head;
+            tag = tagOf (r .start) (r .spent + 1);
+            end = x .clock + time;
+            length = length;
+            number = number;
+          };
+        }
 
-  -- the body of slot k stands first in the 512 store bytes from here on
-  abbrev pub from : ℕ → ℕ
-  from k = 4096 * i + 512 * k
+    -- the body of slot k stands first in the 512 store bytes from here on
+    abbrev pub from : ℕ → ℕ
+    from k = 4096 * i + 512 * k
 
-  -- what a success leaves: record r at place i becomes r′, the store becomes store′, and the outcome is o
-  pub record AfterSuccess (r′ : Record) (store store′ : List ℕ) (o : Outcome) : Type 0 where
-    -- it gives the tag of its success number, and the time granted
-    pub gives : o ≡ Granted (tagOf (r .start) (r .spent + 1)) time
-    -- it spends one tag
-    pub spends-one : r′ .spent ≡ r .spent + 1
-    -- it sets the latest clock
-    pub sets-clock : r′ .clock ≡ x .clock
-    -- the record is in use as before, for the same address, with the same start
-    pub same : (r′ .used ≡ r .used) × (r′ .address ≡ r .address) × (r′ .start ≡ r .start)
-    -- it has eight slots, and the map of those that are occupied
-    pub eight : (length (r′ .slots) ≡ 8) × (r′ .map ≡ mapOf (places r′))
-    -- the occupied slots are exactly the live ones
-    pub live-only : live (x .clock) r′ ≡ occupied r′
-    -- a slot whose end has come is freed
-    pub frees : (k : ℕ) → Other k → placeAt (places r) k .taken ≡ true → placeAt (places r) k .slot .end ≤ x .clock
-        → placeAt (places r′) k ≡ freePlace
-    -- any other place that is not written stays as it was
-    pub stays : (k : ℕ) → Other k → (placeAt (places r) k .taken ≡ false) ⊎ (x .clock < placeAt (places r) k .slot .end)
-        → placeAt (places r′) k ≡ placeAt (places r) k
-    -- the slot that is written is one of the eight
-    pub there : 0 < time → slot < 8
-    -- a body, where given, replaces the old one and sets the body number
-    pub writes : 0 < time → 0 < size → placeAt (places r′) slot ≡ holding size (r .spent + 1)
-    -- where none is given, body length and body number stay
-    pub renews : 0 < time → size ≡ 0
-        → placeAt (places r′) slot ≡ holding (placeAt (places r) slot .slot .length) (placeAt (places r) slot .slot .number)
-    -- granted 0: a matched slot is freed
-    pub ends : time ≡ 0 → hasMatch head ≡ true → placeAt (places r′) slot ≡ freePlace
-    -- the store bytes at the slot's place are the body given, byte for byte
-    pub stores : 0 < time → 0 < size → part store′ (from slot) (from slot + size) ≡ body (x .request) head
-    -- which is as long as it says
-    pub long : length (body (x .request) head) ≡ size
-    -- every byte of any other live body, and of one that is not replaced, stays as it was
-    pub bodies-stay : (k j : ℕ) → (k ≡ slot → ⊥) ⊎ (size ≡ 0) → placeAt (places r′) k .taken ≡ true → j < placeAt (places r′) k .slot .length
-        → j < 512 → getD store′ (from k + j) 0 ≡ getD store (from k + j) 0
-    -- every byte of that address's store outside a live body is zero
-    pub zeros : (k j : ℕ) → k < 8 → j < 512 → (placeAt (places r′) k .taken ≡ false) ⊎ (placeAt (places r′) k .slot .length ≤ j)
-        → getD store′ (from k + j) 0 ≡ 0
+    -- what a success leaves: record r at place i becomes r′, the store becomes store′, and the outcome is o
+    pub record AfterSuccess (r′ : Record) (store store′ : List ℕ) (o : Outcome) : Type 0 where
+      -- it gives the tag of its success number, and the time granted
+      pub gives : o ≡ Granted (tagOf (r .start) (r .spent + 1)) time
+      -- it spends one tag
+      pub spends-one : r′ .spent ≡ r .spent + 1
+      -- it sets the latest clock
+      pub sets-clock : r′ .clock ≡ x .clock
+      -- the record is in use as before, for the same address, with the same start
+      pub same : (r′ .used ≡ r .used) × (r′ .address ≡ r .address) × (r′ .start ≡ r .start)
+      -- it has eight slots, and the map of those that are occupied
+      pub eight : (length (r′ .slots) ≡ 8) × (r′ .map ≡ mapOf (places r′))
+      -- the occupied slots are exactly the live ones
+      pub live-only : live (x .clock) r′ ≡ occupied r′
+      -- a slot whose end has come is freed
+      pub frees : (k : ℕ) → Other k → placeAt (places r) k .taken ≡ true → placeAt (places r) k .slot .end ≤ x .clock
+          → placeAt (places r′) k ≡ freePlace
+      -- any other place that is not written stays as it was
+      pub stays : (k : ℕ) → Other k → (placeAt (places r) k .taken ≡ false) ⊎ (x .clock < placeAt (places r) k .slot .end)
+          → placeAt (places r′) k ≡ placeAt (places r) k
+      -- the slot that is written is one of the eight
+      pub there : 0 < time → slot < 8
+      -- a body, where given, replaces the old one and sets the body number
+      pub writes : 0 < time → 0 < size → placeAt (places r′) slot ≡ holding size (r .spent + 1)
+      -- where none is given, body length and body number stay
+      pub renews : 0 < time → size ≡ 0
+          → placeAt (places r′) slot ≡ holding (placeAt (places r) slot .slot .length) (placeAt (places r) slot .slot .number)
+      -- granted 0: a matched slot is freed
+      pub ends : time ≡ 0 → hasMatch head ≡ true → placeAt (places r′) slot ≡ freePlace
+      -- the store bytes at the slot's place are the body given, byte for byte
+      pub stores : 0 < time → 0 < size → part store′ (from slot) (from slot + size) ≡ body (x .request) head
+      -- which is as long as it says
+      pub long : length (body (x .request) head) ≡ size
+      -- every byte of any other live body, and of one that is not replaced, stays as it was
+      pub bodies-stay : (k j : ℕ) → (k ≡ slot → ⊥) ⊎ (size ≡ 0) → placeAt (places r′) k .taken ≡ true → j < placeAt (places r′) k .slot .length
+          → j < 512 → getD store′ (from k + j) 0 ≡ getD store (from k + j) 0
+      -- every byte of that address's store outside a live body is zero
+      pub zeros : (k j : ℕ) → k < 8 → j < 512 → (placeAt (places r′) k .taken ≡ false) ⊎ (placeAt (places r′) k .slot .length ≤ j)
+          → getD store′ (from k + j) 0 ≡ 0

@@ -6,7 +6,7 @@ use Prim.Native.Nat.{ℕ, suc, _<_, _≤_}
 use native.Mathlib.Omega.{arith}
 use lib.Dec.{ltb, eqb}
 use lib.ListN.{length, getD}
-use borrow.Author.Tests.{ltb-true, ltb-false, lt-ltb, le-ltb, eqb-true, eqb-false, eq-eqb, not-true, not-false}
+use borrow.Author.Tests.{ltb-true, ltb-false, lt-ltb, eqb-false, not-true, not-false}
 use Rattle.laws.specs.Choose.{pick}
 use Rattle.laws.specs.Bytes.{bytes}
 use Rattle.laws.specs.Lists.{placeOf, those, every, same}
@@ -21,7 +21,6 @@ use Rattle.record.specs.Places.{freePlace, places, isLive, live, lowestFree, ma
 use Rattle.record.specs.Sound.{latestClock}
 use Rattle.record.specs.After.{freedAt, freedPlaces, isMatch, writtenSlot}
 use Rattle.record.specs.declared.Record.{Record}
-use Rattle.record.specs.declared.Success.{Success}
 use Rattle.record.proofs.Places.{placeAt}
 use Rattle.record.proofs.StoreLaws.{placesIn-length}
 use Rattle.record.proofs.FreedLaws.{count-live}

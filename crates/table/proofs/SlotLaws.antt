@@ -67,7 +67,7 @@ module _ (t : Table) (buffer : List ℕ) (x : Input) (w : every isWhole (t .reco
   matched-is = match-is (caseOf t buffer x) g
 
   -- and it is there
-  pub slot-fits : 0 < time x i r → k < 8
+  pub slot-fits : 0 < time x → k < 8
   unfolding caseOf successOf successFor
   slot-fits l = rw written-is at (slot-there (caseOf t buffer x) g (freedAt-length (x .clock) r ∙ eight-slots) l)
 
@@ -78,17 +78,17 @@ module _ (t : Table) (buffer : List ℕ) (x : Input) (w : every isWhole (t .reco
   other n (inr a) = other-place y r n (inr (a .0, matched-is ∙ a .1))
 
   -- what stands at the slot that is written
-  new : 0 < time x i r → placeAt (placesAfter y r) k ≡ record { taken = true; slot = written y r (freed (x .clock) (placeAt (places r) k) .slot) }
+  new : 0 < time x → placeAt (placesAfter y r) k ≡ record { taken = true; slot = written y r (freed (x .clock) (placeAt (places r) k) .slot) }
   unfolding successFor
   new l = rw written-is at (written-place y r l (omega (arith, written-is, slot-fits l, eight-places)))
 
   -- with a body
-  pub new-body : 0 < time x i r → 0 < size x i r → placeAt (placesAfter y r) k ≡ holding x i r (size x i r) (r .spent + 1)
+  pub new-body : 0 < time x → 0 < size x → placeAt (placesAfter y r) k ≡ holding x i r (size x) (r .spent + 1)
   unfolding written hasBody givenTag successNumber successFor
-  new-body l b = new l ∙ rw (lt-ltb 0 (size x i r) b)
+  new-body l b = new l ∙ rw (lt-ltb 0 (size x) b)
 
   -- without one a live slot was matched, and it is not freed
-  not-freed : size x i r ≡ 0 → freed (x .clock) (placeAt (places r) k) ≡ placeAt (places r) k
+  not-freed : size x ≡ 0 → freed (x .clock) (placeAt (places r) k) ≡ placeAt (places r) k
   unfolding caseOf
   not-freed z = go (hasMatch h) refl
     where
@@ -96,12 +96,12 @@ module _ (t : Table) (buffer : List ℕ) (x : Input) (w : every isWhole (t .reco
       go true m = rw m (live-stays (x .clock) _ (match-live (caseOf t buffer x) g eight-slots m))
       go false m = absurd (omega (arith, g .told m))
 
-  pub old-body : 0 < time x i r → size x i r ≡ 0
+  pub old-body : 0 < time x → size x ≡ 0
       → placeAt (placesAfter y r) k ≡ holding x i r (placeAt (places r) k .slot .length) (placeAt (places r) k .slot .number)
   unfolding written hasBody givenTag successNumber successFor
-  old-body l z = new l ∙ rw (le-ltb 0 (size x i r) (omega arith), not-freed z)
+  old-body l z = new l ∙ rw (le-ltb 0 (size x) (omega arith), not-freed z)
 
   -- granted 0
-  pub ended : time x i r ≡ 0 → hasMatch h ≡ true → placeAt (placesAfter y r) k ≡ freePlace
+  pub ended : time x ≡ 0 → hasMatch h ≡ true → placeAt (placesAfter y r) k ≡ freePlace
   unfolding successFor caseOf
   ended z m = rw written-is at (ended-place y r z (matched-is ∙ m) (rw (eight-places, m) (g .matched m)))

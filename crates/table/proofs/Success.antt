@@ -17,25 +17,25 @@ use Rattle.laws.proofs.Rows.{none-applies}
 use Rattle.laws.proofs.Parts.{part-at, part-length, put-length, put-before, put-behind, put-part}
 use Rattle.tag.specs.Tag.{tagOf}
 use Rattle.request.specs.Head.{headOf, uriOf}
-use Rattle.request.specs.Fields.{hasMatch, body}
+use Rattle.request.specs.Fields.{body}
 use Rattle.request.specs.declared.Head.{Head}
-use Rattle.record.specs.Places.{emptyRecord, freePlace, isWhole, places}
+use Rattle.record.specs.Places.{emptyRecord, isWhole}
 use Rattle.record.specs.Store.{roomAt, partAt, partOf, withPart}
-use Rattle.record.specs.After.{successNumber, givenTag, freed, freedPlaces, isMatch, hasBody, writtenSlot, written, placesAfter, recordAfter, withBody, partAfter}
+use Rattle.record.specs.After.{successNumber, givenTag, hasBody, placesAfter, recordAfter, withBody, partAfter}
 use Rattle.record.specs.declared.Record.{Record}
 use Rattle.record.specs.declared.Success.{Success}
 use Rattle.record.proofs.Places.{placeAt, taken-below}
-use Rattle.record.proofs.StoreLaws.{freedAt-length, freedPlaces-length, slotsOf-length, placesAfter-length, partAfter-length, whole-slots}
-use Rattle.record.proofs.Stands.{live-stays, run-out, place-stays, written-place, ended-place, other-place}
+use Rattle.record.proofs.StoreLaws.{slotsOf-length, placesAfter-length, partAfter-length}
+use Rattle.record.proofs.Stands.{run-out, place-stays}
 use Rattle.record.proofs.AfterLaws.{places-after, live-after, byte-after, zero-outside}
 use Rattle.record.proofs.SuccessLaws.{part-whole, byte-of, byte-in}
 use Rattle.publish.specs.Outcomes.{isSuccess}
-use Rattle.publish.specs.Refusals.{presented, granted, refusals, outcomeOf}
+use Rattle.publish.specs.Refusals.{refusals, outcomeOf}
 use Rattle.publish.specs.Step.{successFor, successOf, partAfterwards}
 use Rattle.publish.specs.declared.Outcome.the-variants.{Granted}
 use Rattle.table.specs.Table.{Table, placeFor, recordAt, withRecord}
-use Rattle.table.specs.Handle.{Input, Done, done, doneWith, caseOf, tableAfter}
-use Rattle.table.proofs.AfterSuccess.{time, size, slot, Other, holding, from, AfterSuccess}
+use Rattle.table.specs.Handle.{Input, done, doneWith, caseOf, tableAfter}
+use Rattle.table.proofs.AfterSuccess.{time, size, slot, from, AfterSuccess}
 use Rattle.table.proofs.OneRecord.{none-refusing, success-size, success-known, handle-writes, part-lies}
 use Rattle.table.proofs.GrantedLaws.{grants}
 use Rattle.table.proofs.SlotLaws.{eight-slots, written-is, slot-fits, other, new-body, old-body, ended}
@@ -81,30 +81,30 @@ module _ (t : Table) (buffer : List ℕ) (x : Input) (w : every isWhole (t .reco
   short = omega (arith, body-size (x .request) h, grants (caseOf t buffer x) e .body-fits)
 
   -- the body fits its room
-  given-fits : 0 < time x i r → 512 * k + length given ≤ length bs
+  given-fits : 0 < time x → 512 * k + length given ≤ length bs
   given-fits l = omega (arith, short, slot-fits t buffer x w e l, part-whole (t .store) i lies)
 
   -- there stands the body given
-  given-at : 0 < time x i r → 0 < size x i r → (j : ℕ) → j < length given → getD (withBody y r given bs) (512 * k + j) 0 ≡ getD given j 0
+  given-at : 0 < time x → 0 < size x → (j : ℕ) → j < length given → getD (withBody y r given bs) (512 * k + j) 0 ≡ getD given j 0
   unfolding withBody hasBody roomAt successFor
   given-at l b j q =
-      rw (lt-ltb 0 (size x i r) b, lt-ltb 0 (time x i r) l, written-is t buffer x w e)
+      rw (lt-ltb 0 (size x) b, lt-ltb 0 (time x) l, written-is t buffer x w e)
       (sym (part-at (putAt bs (512 * k) given) (512 * k) (512 * k + length given) j 0 (omega arith))
       ∙ ap (λ (s : List ℕ). getD s j 0) (put-part bs (512 * k) given (given-fits l)))
 
   -- in any other room, and where no body is given, stands what was there
-  kept-at : (n j : ℕ) → (n ≡ k → ⊥) ⊎ (size x i r ≡ 0) → j < 512 → getD (withBody y r given bs) (512 * n + j) 0 ≡ getD bs (512 * n + j) 0
+  kept-at : (n j : ℕ) → (n ≡ k → ⊥) ⊎ (size x ≡ 0) → j < 512 → getD (withBody y r given bs) (512 * n + j) 0 ≡ getD bs (512 * n + j) 0
   unfolding withBody hasBody roomAt successFor
-  kept-at n j (inr z) q = rw (le-ltb 0 (size x i r) (omega arith))
-  kept-at n j (inl a) q = rw (written-is t buffer x w e) (go (ltb 0 (size x i r) && ltb 0 (time x i r)) refl (decLt n k))
+  kept-at n j (inr z) q = rw (le-ltb 0 (size x) (omega arith))
+  kept-at n j (inl a) q = rw (written-is t buffer x w e) (go (ltb 0 (size x) && ltb 0 (time x)) refl (decLt n k))
     where
-      go : (b : Bool) → (ltb 0 (size x i r) && ltb 0 (time x i r)) ≡ b → Dec (n < k)
+      go : (b : Bool) → (ltb 0 (size x) && ltb 0 (time x)) ≡ b → Dec (n < k)
           → getD (pick b (putAt bs (512 * k) given) bs) (512 * n + j) 0 ≡ getD bs (512 * n + j) 0
       go false f d = refl
       go true f (yes d) =
-          put-before bs (512 * k) given (given-fits (ltb-true _ _ (and-right (ltb 0 (size x i r)) _ f))) (512 * n + j) 0 (omega arith)
+          put-before bs (512 * k) given (given-fits (ltb-true _ _ (and-right (ltb 0 (size x)) _ f))) (512 * n + j) 0 (omega arith)
       go true f (no d) =
-          put-behind bs (512 * k) given (given-fits (ltb-true _ _ (and-right (ltb 0 (size x i r)) _ f))) (512 * n + j) 0
+          put-behind bs (512 * k) given (given-fits (ltb-true _ _ (and-right (ltb 0 (size x)) _ f))) (512 * n + j) 0
           (omega (arith, short))
 
   -- the part after
@@ -128,23 +128,23 @@ module _ (t : Table) (buffer : List ℕ) (x : Input) (w : every isWhole (t .reco
       byte-in (t .store) part′ i n j part-long lies (below n q) m ∙ byte-after y r given bs n j m ∙ rw (q, lt-ltb j _ l)
 
   -- the body given stands at its slot's place
-  body-in : 0 < time x i r → 0 < size x i r → part store′ (from x i r k) (from x i r k + size x i r) ≡ given
+  body-in : 0 < time x → 0 < size x → part store′ (from x i r k) (from x i r k + size x) ≡ given
   unfolding withPart partAt
-  body-in l b = ext-getD 0 (part store′ (from x i r k) (from x i r k + size x i r)) given (long ∙ sym same-size) same-bytes
+  body-in l b = ext-getD 0 (part store′ (from x i r k) (from x i r k + size x)) given (long ∙ sym same-size) same-bytes
     where
-      same-size : length given ≡ size x i r
+      same-size : length given ≡ size x
       same-size = body-size (x .request) h
 
-      long : length (part store′ (from x i r k) (from x i r k + size x i r)) ≡ size x i r
+      long : length (part store′ (from x i r k) (from x i r k + size x)) ≡ size x
       long =
           let stays : length store′ ≡ length (t .store) = put-length (t .store) (4096 * i) part′ (omega (arith, part-long, lies)) in
-          part-length store′ (from x i r k) (from x i r k + size x i r) (omega arith) (omega (arith, slot-fits t buffer x w e l, same-size, short, lies)) ∙ omega arith
+          part-length store′ (from x i r k) (from x i r k + size x) (omega arith) (omega (arith, slot-fits t buffer x w e l, same-size, short, lies)) ∙ omega arith
 
-      same-bytes : (j : ℕ) → j < length (part store′ (from x i r k) (from x i r k + size x i r))
-          → getD (part store′ (from x i r k) (from x i r k + size x i r)) j 0 ≡ getD given j 0
+      same-bytes : (j : ℕ) → j < length (part store′ (from x i r k) (from x i r k + size x))
+          → getD (part store′ (from x i r k) (from x i r k + size x)) j 0 ≡ getD given j 0
       same-bytes j q =
-          let near : j < size x i r = omega (arith, long) in
-          part-at store′ (from x i r k) (from x i r k + size x i r) j 0 (omega arith)
+          let near : j < size x = omega (arith, long) in
+          part-at store′ (from x i r k) (from x i r k + size x) j 0 (omega arith)
           ∙ live-byte k j (rw (new-body t buffer x w e l b)) (rw (new-body t buffer x w e l b) near) (omega (arith, same-size, short))
           ∙ given-at l b j (omega (arith, same-size))
 
@@ -153,7 +153,7 @@ module _ (t : Table) (buffer : List ℕ) (x : Input) (w : every isWhole (t .reco
   r′ = recordAfter y r
 
   -- where no refusal applies, tag and time are given
-  outcome-is : outcomeOf (caseOf t buffer x) ≡ Granted (tagOf (r .start) (r .spent + 1)) (time x i r)
+  outcome-is : outcomeOf (caseOf t buffer x) ≡ Granted (tagOf (r .start) (r .spent + 1)) (time x)
   unfolding outcomeOf caseOf givenTag successNumber
   outcome-is = none-applies (refusals (caseOf t buffer x)) _ (none-refusing (caseOf t buffer x) e)
 
