@@ -29,7 +29,11 @@ module _ (x : Input) where
   abbrev pub time : ℕ
   time = granted (x .request) head
 
-  -- how long the body is; 0 where none is given
+  -- the body given
+  abbrev pub given : List ℕ
+  given = body (x .request) head
+
+  -- how long it is; 0 where none is given
   abbrev pub size : ℕ
   size = bodyLength (x .request) head
 
@@ -90,9 +94,9 @@ module _ (x : Input) where
       -- granted 0: a matched slot is freed
       pub ends : time ≡ 0 → hasMatch head ≡ true → placeAt (places r′) slot ≡ freePlace
       -- the store bytes at the slot's place are the body given, byte for byte
-      pub stores : 0 < time → 0 < size → part store′ (from slot) (from slot + size) ≡ body (x .request) head
-      -- which is as long as it says
-      pub long : length (body (x .request) head) ≡ size
+      pub stores : 0 < time → 0 < size → part store′ (from slot) (from slot + length given) ≡ given
+      -- which is as long as the slot says
+      pub long : length given ≡ size
       -- every byte of any other live body, and of one that is not replaced, stays as it was
       pub bodies-stay : (k j : ℕ) → (k ≡ slot → ⊥) ⊎ (size ≡ 0) → placeAt (places r′) k .taken ≡ true → j < placeAt (places r′) k .slot .length
           → j < 512 → getD store′ (from k + j) 0 ≡ getD store (from k + j) 0

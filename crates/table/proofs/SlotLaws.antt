@@ -10,7 +10,6 @@ use borrow.Author.Tests.{lt-ltb, le-ltb}
 use Rattle.laws.specs.Lists.{every}
 use Rattle.request.specs.Head.{headOf, uriOf}
 use Rattle.request.specs.Fields.{hasMatch}
-use Rattle.request.specs.declared.Head.{Head}
 use Rattle.record.specs.Places.{freePlace, isWhole, places}
 use Rattle.record.specs.After.{successNumber, givenTag, freed, freedPlaces, isMatch, hasBody, writtenSlot, written, placesAfter}
 use Rattle.record.specs.declared.Record.{Record}
@@ -23,7 +22,7 @@ use Rattle.publish.specs.Refusals.{outcomeOf}
 use Rattle.publish.specs.Step.{successFor, successOf}
 use Rattle.table.specs.Table.{Table, placeFor, recordAt}
 use Rattle.table.specs.Handle.{Input, caseOf}
-use Rattle.table.proofs.AfterSuccess.{time, size, slot, Other, holding}
+use Rattle.table.proofs.AfterSuccess.{head, time, size, slot, Other, holding}
 use Rattle.table.proofs.GrantedLaws.{Grants, grants, match-live, match-is, slot-is, slot-there}
 use Rattle.table.proofs.Whole.{own-passes}
 
@@ -35,12 +34,9 @@ module _ (t : Table) (buffer : List ℕ) (x : Input) (w : every isWhole (t .reco
   abbrev pub r : Record
   r = recordAt t i
 
-  abbrev pub h : Head
-  h = headOf (x .request)
-
   -- the success that the request is
   abbrev pub y : Success
-  y = successFor r (x .clock) (x .request) h
+  y = successFor r (x .clock) (x .request) (head x)
 
   -- its slot
   abbrev pub k : ℕ
@@ -62,7 +58,7 @@ module _ (t : Table) (buffer : List ℕ) (x : Input) (w : every isWhole (t .reco
   unfolding caseOf successOf
   written-is = slot-is (caseOf t buffer x) g
 
-  matched-is : isMatch y ≡ hasMatch h
+  matched-is : isMatch y ≡ hasMatch (head x)
   unfolding caseOf successOf
   matched-is = match-is (caseOf t buffer x) g
 
@@ -90,9 +86,9 @@ module _ (t : Table) (buffer : List ℕ) (x : Input) (w : every isWhole (t .reco
   -- without one a live slot was matched, and it is not freed
   not-freed : size x ≡ 0 → freed (x .clock) (placeAt (places r) k) ≡ placeAt (places r) k
   unfolding caseOf
-  not-freed z = go (hasMatch h) refl
+  not-freed z = go (hasMatch (head x)) refl
     where
-      go : (b : Bool) → hasMatch h ≡ b → freed (x .clock) (placeAt (places r) k) ≡ placeAt (places r) k
+      go : (b : Bool) → hasMatch (head x) ≡ b → freed (x .clock) (placeAt (places r) k) ≡ placeAt (places r) k
       go true m = rw m (live-stays (x .clock) _ (match-live (caseOf t buffer x) g eight-slots m))
       go false m = absurd (omega (arith, g .told m))
 
@@ -102,6 +98,6 @@ module _ (t : Table) (buffer : List ℕ) (x : Input) (w : every isWhole (t .reco
   old-body l z = new l ∙ rw (le-ltb 0 (size x) (omega arith), not-freed z)
 
   -- granted 0
-  pub ended : time x ≡ 0 → hasMatch h ≡ true → placeAt (placesAfter y r) k ≡ freePlace
+  pub ended : time x ≡ 0 → hasMatch (head x) ≡ true → placeAt (placesAfter y r) k ≡ freePlace
   unfolding successFor caseOf
   ended z m = rw written-is at (ended-place y r z (matched-is ∙ m) (rw (eight-places, m) (g .matched m)))

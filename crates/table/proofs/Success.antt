@@ -17,8 +17,6 @@ use Rattle.laws.proofs.Rows.{none-applies}
 use Rattle.laws.proofs.Parts.{part-at, part-length, put-length, put-before, put-behind, put-part}
 use Rattle.tag.specs.Tag.{tagOf}
 use Rattle.request.specs.Head.{headOf, uriOf}
-use Rattle.request.specs.Fields.{body}
-use Rattle.request.specs.declared.Head.{Head}
 use Rattle.record.specs.Places.{emptyRecord, isWhole}
 use Rattle.record.specs.Store.{roomAt, partAt, partOf, withPart}
 use Rattle.record.specs.After.{successNumber, givenTag, hasBody, placesAfter, recordAfter, withBody, partAfter}
@@ -35,12 +33,18 @@ use Rattle.publish.specs.Step.{successFor, successOf, partAfterwards}
 use Rattle.publish.specs.declared.Outcome.the-variants.{Granted}
 use Rattle.table.specs.Table.{Table, placeFor, recordAt, withRecord}
 use Rattle.table.specs.Handle.{Input, done, doneWith, caseOf, tableAfter}
-use Rattle.table.proofs.AfterSuccess.{time, size, slot, from, AfterSuccess}
+use Rattle.table.proofs.AfterSuccess.{head, time, given, size, slot, from, AfterSuccess}
 use Rattle.table.proofs.OneRecord.{none-refusing, success-size, success-known, handle-writes, part-lies}
 use Rattle.table.proofs.GrantedLaws.{grants}
 use Rattle.table.proofs.SlotLaws.{eight-slots, written-is, slot-fits, other, new-body, old-body, ended}
 use Rattle.table.proofs.AskLaws.{body-size}
 use Rattle.table.proofs.Whole.{records-after}
+
+-- a part of a list whose bytes are those of another is that one
+part-is : (s b : List ℕ) (a : ℕ) → a + length b ≤ length s → ((j : ℕ) → j < length b → getD s (a + j) 0 ≡ getD b j 0) → part s a (a + length b) ≡ b
+part-is s b a h f =
+    let size : length (part s a (a + length b)) ≡ length b = part-length s a (a + length b) (omega arith) h ∙ omega arith in
+    ext-getD 0 (part s a (a + length b)) b size (λ j q. part-at s a (a + length b) j 0 (omega arith) ∙ f j (omega arith))
 
 module _ (t : Table) (buffer : List ℕ) (x : Input) (w : every isWhole (t .records) ≡ true)
     (e : isSuccess (outcomeOf (caseOf t buffer x)) ≡ true) where
@@ -50,20 +54,13 @@ module _ (t : Table) (buffer : List ℕ) (x : Input) (w : every isWhole (t .reco
   abbrev r : Record
   r = recordAt t i
 
-  abbrev h : Head
-  h = headOf (x .request)
-
   -- the success that the request is
   abbrev y : Success
-  y = successFor r (x .clock) (x .request) h
+  y = successFor r (x .clock) (x .request) (head x)
 
   -- its slot
   abbrev k : ℕ
   k = slot x i r
-
-  -- its body
-  abbrev given : List ℕ
-  given = body (x .request) h
 
   -- the part of the store before it
   abbrev bs : List ℕ
@@ -76,46 +73,46 @@ module _ (t : Table) (buffer : List ℕ) (x : Input) (w : every isWhole (t .reco
   lies = part-lies t i (success-size t buffer x e) known
 
   -- the body has at most 512 bytes
-  short : length given ≤ 512
+  short : length (given x) ≤ 512
   unfolding caseOf
-  short = omega (arith, body-size (x .request) h, grants (caseOf t buffer x) e .body-fits)
+  short = omega (arith, body-size (x .request) (head x), grants (caseOf t buffer x) e .body-fits)
 
   -- the body fits its room
-  given-fits : 0 < time x → 512 * k + length given ≤ length bs
+  given-fits : 0 < time x → 512 * k + length (given x) ≤ length bs
   given-fits l = omega (arith, short, slot-fits t buffer x w e l, part-whole (t .store) i lies)
 
   -- there stands the body given
-  given-at : 0 < time x → 0 < size x → (j : ℕ) → j < length given → getD (withBody y r given bs) (512 * k + j) 0 ≡ getD given j 0
+  given-at : 0 < time x → 0 < size x → (j : ℕ) → j < length (given x) → getD (withBody y r (given x) bs) (512 * k + j) 0 ≡ getD (given x) j 0
   unfolding withBody hasBody roomAt successFor
   given-at l b j q =
       rw (lt-ltb 0 (size x) b, lt-ltb 0 (time x) l, written-is t buffer x w e)
-      (sym (part-at (putAt bs (512 * k) given) (512 * k) (512 * k + length given) j 0 (omega arith))
-      ∙ ap (λ (s : List ℕ). getD s j 0) (put-part bs (512 * k) given (given-fits l)))
+      (sym (part-at (putAt bs (512 * k) (given x)) (512 * k) (512 * k + length (given x)) j 0 (omega arith))
+      ∙ ap (λ (s : List ℕ). getD s j 0) (put-part bs (512 * k) (given x) (given-fits l)))
 
   -- in any other room, and where no body is given, stands what was there
-  kept-at : (n j : ℕ) → (n ≡ k → ⊥) ⊎ (size x ≡ 0) → j < 512 → getD (withBody y r given bs) (512 * n + j) 0 ≡ getD bs (512 * n + j) 0
+  kept-at : (n j : ℕ) → (n ≡ k → ⊥) ⊎ (size x ≡ 0) → j < 512 → getD (withBody y r (given x) bs) (512 * n + j) 0 ≡ getD bs (512 * n + j) 0
   unfolding withBody hasBody roomAt successFor
   kept-at n j (inr z) q = rw (le-ltb 0 (size x) (omega arith))
   kept-at n j (inl a) q = rw (written-is t buffer x w e) (go (ltb 0 (size x) && ltb 0 (time x)) refl (decLt n k))
     where
       go : (b : Bool) → (ltb 0 (size x) && ltb 0 (time x)) ≡ b → Dec (n < k)
-          → getD (pick b (putAt bs (512 * k) given) bs) (512 * n + j) 0 ≡ getD bs (512 * n + j) 0
+          → getD (pick b (putAt bs (512 * k) (given x)) bs) (512 * n + j) 0 ≡ getD bs (512 * n + j) 0
       go false f d = refl
-      go true f (yes d) =
-          put-before bs (512 * k) given (given-fits (ltb-true _ _ (and-right (ltb 0 (size x)) _ f))) (512 * n + j) 0 (omega arith)
-      go true f (no d) =
-          put-behind bs (512 * k) given (given-fits (ltb-true _ _ (and-right (ltb 0 (size x)) _ f))) (512 * n + j) 0
-          (omega (arith, short))
+      go true f d = around (given-fits (ltb-true _ _ (and-right (ltb 0 (size x)) _ f))) d
+        where
+          around : 512 * k + length (given x) ≤ length bs → Dec (n < k) → getD (putAt bs (512 * k) (given x)) (512 * n + j) 0 ≡ getD bs (512 * n + j) 0
+          around m (yes d) = put-before bs (512 * k) (given x) m (512 * n + j) 0 (omega arith)
+          around m (no d) = put-behind bs (512 * k) (given x) m (512 * n + j) 0 (omega (arith, short))
 
   -- the part after
   abbrev part′ : List ℕ
-  part′ = partAfter y r given bs
+  part′ = partAfter y r (given x) bs
 
   abbrev store′ : List ℕ
   store′ = withPart i part′ (t .store)
 
   part-long : length part′ ≡ 4096
-  part-long = partAfter-length y r given bs (eight-slots t buffer x w e)
+  part-long = partAfter-length y r (given x) bs (eight-slots t buffer x w e)
 
   -- an occupied place is one of eight
   below : (n : ℕ) → placeAt (placesAfter y r) n .taken ≡ true → n < 8
@@ -123,30 +120,22 @@ module _ (t : Table) (buffer : List ℕ) (x : Input) (w : every isWhole (t .reco
 
   -- a byte of a live body
   live-byte : (n j : ℕ) → placeAt (placesAfter y r) n .taken ≡ true → j < placeAt (placesAfter y r) n .slot .length → j < 512
-      → getD store′ (from x i r n + j) 0 ≡ getD (withBody y r given bs) (512 * n + j) 0
+      → getD store′ (from x i r n + j) 0 ≡ getD (withBody y r (given x) bs) (512 * n + j) 0
   live-byte n j q l m =
-      byte-in (t .store) part′ i n j part-long lies (below n q) m ∙ byte-after y r given bs n j m ∙ rw (q, lt-ltb j _ l)
+      byte-in (t .store) part′ i n j part-long lies (below n q) m ∙ byte-after y r (given x) bs n j m ∙ rw (q, lt-ltb j _ l)
 
   -- the body given stands at its slot's place
-  body-in : 0 < time x → 0 < size x → part store′ (from x i r k) (from x i r k + size x) ≡ given
+  body-in : 0 < time x → 0 < size x → part store′ (from x i r k) (from x i r k + length (given x)) ≡ given x
   unfolding withPart partAt
-  body-in l b = ext-getD 0 (part store′ (from x i r k) (from x i r k + size x)) given (long ∙ sym same-size) same-bytes
+  body-in l b = part-is store′ (given x) (from x i r k) (omega (arith, as-long, lies, slot-fits t buffer x w e l, short)) bytes
     where
-      same-size : length given ≡ size x
-      same-size = body-size (x .request) h
+      as-long : length store′ ≡ length (t .store)
+      as-long = put-length (t .store) (4096 * i) part′ (omega (arith, part-long, lies))
 
-      long : length (part store′ (from x i r k) (from x i r k + size x)) ≡ size x
-      long =
-          let stays : length store′ ≡ length (t .store) = put-length (t .store) (4096 * i) part′ (omega (arith, part-long, lies)) in
-          part-length store′ (from x i r k) (from x i r k + size x) (omega arith) (omega (arith, slot-fits t buffer x w e l, same-size, short, lies)) ∙ omega arith
-
-      same-bytes : (j : ℕ) → j < length (part store′ (from x i r k) (from x i r k + size x))
-          → getD (part store′ (from x i r k) (from x i r k + size x)) j 0 ≡ getD given j 0
-      same-bytes j q =
-          let near : j < size x = omega (arith, long) in
-          part-at store′ (from x i r k) (from x i r k + size x) j 0 (omega arith)
-          ∙ live-byte k j (rw (new-body t buffer x w e l b)) (rw (new-body t buffer x w e l b) near) (omega (arith, same-size, short))
-          ∙ given-at l b j (omega (arith, same-size))
+      bytes : (j : ℕ) → j < length (given x) → getD store′ (from x i r k + j) 0 ≡ getD (given x) j 0
+      bytes j q =
+          let near : j < size x = omega (arith, body-size (x .request) (head x)) in
+          live-byte k j (rw (new-body t buffer x w e l b)) (rw (new-body t buffer x w e l b) near) (omega (arith, short)) ∙ given-at l b j q
 
   -- the record after
   abbrev r′ : Record
@@ -175,12 +164,12 @@ module _ (t : Table) (buffer : List ℕ) (x : Input) (w : every isWhole (t .reco
         renews = λ l z. rw (places-after y r) (old-body t buffer x w e l z);
         ends = λ z m. rw (places-after y r) (ended t buffer x w e z m);
         stores = body-in;
-        long = body-size (x .request) h;
+        long = body-size (x .request) (head x);
         bodies-stay = λ n j o q l m.
             let q′ : placeAt (placesAfter y r) n .taken ≡ true = rw (places-after y r) at q in
             live-byte n j q′ (rw (places-after y r) at l) m ∙ kept-at n j o m ∙ byte-of (t .store) i n j (below n q′) m;
         zeros = λ n j a b o.
-            byte-in (t .store) part′ i n j part-long lies a b ∙ zero-outside y r given bs n j b (rw (places-after y r) at o);
+            byte-in (t .store) part′ i n j part-long lies a b ∙ zero-outside y r (given x) bs n j b (rw (places-after y r) at o);
       }
 
   -- `handle` writes that record
