@@ -34,6 +34,13 @@ part-agrees s t a e l f = ext-getD 0 (part s a e) (part t a e) lengths bytes
         let near : a + k < e = omega (arith, part-size s a e) in
         part-at s a e k 0 near ∙ f (a + k) (omega arith) near ∙ sym (part-at t a e k 0 near)
 
+-- a part whose bytes are those of another list, as long as it, is that list
+pub part-is : (s b : List ℕ) (a : ℕ) → a + length b ≤ length s → ((j : ℕ) → j < length b → getD s (a + j) 0 ≡ getD b j 0)
+    → part s a (a + length b) ≡ b
+part-is s b a h f =
+    let size : length (part s a (a + length b)) ≡ length b = part-length s a (a + length b) (omega arith) h ∙ omega arith in
+    ext-getD 0 (part s a (a + length b)) b size (λ j q. part-at s a (a + length b) j 0 (omega arith) ∙ f j (omega arith))
+
 -- past the end of the first of two lists stands what the second has there
 pub append-behind : (xs ys : List ℕ) (p d : ℕ) → length xs ≤ p → getD (xs ++ ys) p d ≡ getD ys (p - length xs) d
 append-behind xs ys p d h =

@@ -28,28 +28,32 @@ use Rattle.table.proofs.Whole.{own-passes}
 
 module _ (t : Table) (buffer : List ℕ) (x : Input) (w : every isWhole (t .records) ≡ true)
     (e : isSuccess (outcomeOf (caseOf t buffer x)) ≡ true) where
-  abbrev pub i : ℕ
+  -- the place of the request's address
+  abbrev i : ℕ
   i = placeFor (uriOf (x .request) (headOf (x .request))) t
 
-  abbrev pub r : Record
+  -- the record there
+  abbrev r : Record
   r = recordAt t i
 
   -- the success that the request is
-  abbrev pub y : Success
+  abbrev y : Success
   y = successFor r (x .clock) (x .request) (head x)
 
   -- its slot
-  abbrev pub k : ℕ
+  abbrev k : ℕ
   k = slot x i r
 
   -- no refusal applied
-  pub g : Grants (caseOf t buffer x)
+  g : Grants (caseOf t buffer x)
   g = grants (caseOf t buffer x) e
 
+  -- the record has eight slots
   pub eight-slots : length (r .slots) ≡ 8
   unfolding caseOf
   eight-slots = whole-slots r (own-passes t buffer x isWhole w e)
 
+  -- and eight places once those are freed whose end has come
   eight-places : length (freedPlaces y r) ≡ 8
   eight-places = freedPlaces-length y r ∙ eight-slots
 
@@ -58,11 +62,12 @@ module _ (t : Table) (buffer : List ℕ) (x : Input) (w : every isWhole (t .reco
   unfolding caseOf successOf
   written-is = slot-is (caseOf t buffer x) g
 
+  -- it is a matched one where SIP-If-Match is given
   matched-is : isMatch y ≡ hasMatch (head x)
   unfolding caseOf successOf
   matched-is = match-is (caseOf t buffer x) g
 
-  -- and it is there
+  -- it is there
   pub slot-fits : 0 < time x → k < 8
   unfolding caseOf successOf successFor
   slot-fits l = rw written-is at (slot-there (caseOf t buffer x) g (freedAt-length (x .clock) r ∙ eight-slots) l)
@@ -78,7 +83,7 @@ module _ (t : Table) (buffer : List ℕ) (x : Input) (w : every isWhole (t .reco
   unfolding successFor
   new l = rw written-is at (written-place y r l (omega (arith, written-is, slot-fits l, eight-places)))
 
-  -- with a body
+  -- there, with a body
   pub new-body : 0 < time x → 0 < size x → placeAt (placesAfter y r) k ≡ holding x i r (size x) (r .spent + 1)
   unfolding written hasBody givenTag successNumber successFor
   new-body l b = new l ∙ rw (lt-ltb 0 (size x) b)
@@ -92,12 +97,13 @@ module _ (t : Table) (buffer : List ℕ) (x : Input) (w : every isWhole (t .reco
       go true m = rw m (live-stays (x .clock) _ (match-live (caseOf t buffer x) g eight-slots m))
       go false m = absurd (omega (arith, g .told m))
 
+  -- so body length and body number stay
   pub old-body : 0 < time x → size x ≡ 0
       → placeAt (placesAfter y r) k ≡ holding x i r (placeAt (places r) k .slot .length) (placeAt (places r) k .slot .number)
   unfolding written hasBody givenTag successNumber successFor
   old-body l z = new l ∙ rw (le-ltb 0 (size x) (omega arith), not-freed z)
 
-  -- granted 0
+  -- granted 0: a matched slot is freed
   pub ended : time x ≡ 0 → hasMatch (head x) ≡ true → placeAt (placesAfter y r) k ≡ freePlace
   unfolding successFor caseOf
   ended z m = rw written-is at (ended-place y r z (matched-is ∙ m) (rw (eight-places, m) (g .matched m)))

@@ -8,13 +8,13 @@ use native.Mathlib.Decide.{decLt}
 use native.Mathlib.Omega.{arith}
 use lib.Dec.{ltb}
 use lib.ListN.{length, getD}
-use lib.Seq.{getD-set-same, ext-getD}
+use lib.Seq.{getD-set-same}
 use borrow.Author.Tests.{ltb-true, lt-ltb, le-ltb}
 use Rattle.laws.specs.Choose.{pick}
 use Rattle.laws.specs.Lists.{every, part, putAt}
 use Rattle.laws.proofs.Tests.{and-right}
 use Rattle.laws.proofs.Rows.{none-applies}
-use Rattle.laws.proofs.Parts.{part-at, part-length, put-length, put-before, put-behind, put-part}
+use Rattle.laws.proofs.Parts.{part-at, part-is, put-length, put-before, put-behind, put-part}
 use Rattle.tag.specs.Tag.{tagOf}
 use Rattle.request.specs.Head.{headOf, uriOf}
 use Rattle.record.specs.Places.{emptyRecord, isWhole}
@@ -40,17 +40,13 @@ use Rattle.table.proofs.SlotLaws.{eight-slots, written-is, slot-fits, o
 use Rattle.table.proofs.AskLaws.{body-size}
 use Rattle.table.proofs.Whole.{records-after}
 
--- a part of a list whose bytes are those of another is that one
-part-is : (s b : List ℕ) (a : ℕ) → a + length b ≤ length s → ((j : ℕ) → j < length b → getD s (a + j) 0 ≡ getD b j 0) → part s a (a + length b) ≡ b
-part-is s b a h f =
-    let size : length (part s a (a + length b)) ≡ length b = part-length s a (a + length b) (omega arith) h ∙ omega arith in
-    ext-getD 0 (part s a (a + length b)) b size (λ j q. part-at s a (a + length b) j 0 (omega arith) ∙ f j (omega arith))
-
 module _ (t : Table) (buffer : List ℕ) (x : Input) (w : every isWhole (t .records) ≡ true)
     (e : isSuccess (outcomeOf (caseOf t buffer x)) ≡ true) where
+  -- the place of the request's address
   abbrev i : ℕ
   i = placeFor (uriOf (x .request) (headOf (x .request))) t
 
+  -- the record there
   abbrev r : Record
   r = recordAt t i
 
@@ -66,9 +62,11 @@ module _ (t : Table) (buffer : List ℕ) (x : Input) (w : every isWhole (t .reco
   abbrev bs : List ℕ
   bs = partOf i (t .store)
 
+  -- the address is in the table
   known : i < length (t .records)
   known = success-known t buffer x e
 
+  -- its part lies in the store
   lies : 4096 * i + 4096 ≤ length (t .store)
   lies = part-lies t i (success-size t buffer x e) known
 
@@ -100,7 +98,8 @@ module _ (t : Table) (buffer : List ℕ) (x : Input) (w : every isWhole (t .reco
       go false f d = refl
       go true f d = around (given-fits (ltb-true _ _ (and-right (ltb 0 (size x)) _ f))) d
         where
-          around : 512 * k + length (given x) ≤ length bs → Dec (n < k) → getD (putAt bs (512 * k) (given x)) (512 * n + j) 0 ≡ getD bs (512 * n + j) 0
+          around : 512 * k + length (given x) ≤ length bs → Dec (n < k)
+              → getD (putAt bs (512 * k) (given x)) (512 * n + j) 0 ≡ getD bs (512 * n + j) 0
           around m (yes d) = put-before bs (512 * k) (given x) m (512 * n + j) 0 (omega arith)
           around m (no d) = put-behind bs (512 * k) (given x) m (512 * n + j) 0 (omega (arith, short))
 
@@ -108,11 +107,13 @@ module _ (t : Table) (buffer : List ℕ) (x : Input) (w : every isWhole (t .reco
   abbrev part′ : List ℕ
   part′ = partAfter y r (given x) bs
 
-  abbrev store′ : List ℕ
-  store′ = withPart i part′ (t .store)
-
+  -- it has 4,096 bytes
   part-long : length part′ ≡ 4096
   part-long = partAfter-length y r (given x) bs (eight-slots t buffer x w e)
+
+  -- the store after
+  abbrev store′ : List ℕ
+  store′ = withPart i part′ (t .store)
 
   -- an occupied place is one of eight
   below : (n : ℕ) → placeAt (placesAfter y r) n .taken ≡ true → n < 8
