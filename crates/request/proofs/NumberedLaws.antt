@@ -4,11 +4,15 @@ use mathlib.Core.Bool.{Bool, true, false, or-false}
 use mathlib.Core.List.{List, [], _∷_}
 use Prim.Native.Nat.{ℕ, suc, _+_, _≤_}
 use native.Mathlib.Omega.{arith}
-use lib.ListN.{length, drop}
+use lib.ListN.{length, getD, drop}
 use Rattle.laws.specs.Choose.{pick}
 use Rattle.laws.specs.Lists.{placeOf, any}
 use Rattle.text.specs.Names.{sameText, isNamed}
 use Rattle.request.specs.Names.{spellings, nameNumber}
+
+-- the spellings of the name that has a number
+abbrev pub spelled : ℕ → List (List ℕ)
+spelled n = getD spellings n []
 
 -- a place that is looked for lies within the list or at its end
 pub place-within : {A : Type 0} (f : A → Bool) (xs : List A) → placeOf f xs ≤ length xs

@@ -10,11 +10,11 @@ number-of-tag-requires c κs = search needs
 
 returns : tie.Need-returns
 unfolding isGiven
-returns c = rw (← c .before .number-of-tag .ensures, lt-leb _ _ (c .if1 .taken))
+returns c = rw (← c .before .number-of-tag .ensures, lt-leb 1 _ (c .if1 .taken))
 
 returns-2 : tie.Need-returns-2
 unfolding isGiven
-returns-2 c = rw (← c .before .number-of-tag .ensures, le-leb _ _ (c .if1 .left))
+returns-2 c = rw (← c .before .number-of-tag .ensures, le-leb 1 _ (c .if1 .left))
 
 pub is-given-spec : {M : Type 1} → statement M
 is-given-spec = tie.close (tie.spec number-of-tag-requires returns returns-2)

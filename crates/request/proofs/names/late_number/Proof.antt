@@ -1,7 +1,7 @@
 -- The names are compared in their order, and the place of the first that fits is given.
 use borrow.Author.Needs.{needs}
-use Rattle.request.specs.Names.{spellings}
-use Rattle.request.proofs.NumberedLaws.{named-one, is-none, is-first, is-other}
+use Rattle.request.specs.Names.{Content-Type, Content-Length, Event, Expires, SIP-If-Match, spellings}
+use Rattle.request.proofs.NumberedLaws.{spelled, named-one, is-none, is-first, is-other}
 use Rattle.request.proofs.names.late_number.Statement.{statement}
 use Rattle.request.proofs.names.late_number.Tie as tie
 
@@ -16,7 +16,7 @@ spells-requires c κs = search needs
 
 returns : tie.Need-returns
 unfolding spellings
-returns c = is-first _ _ _ (c .before .spells .ensures) (c .if1 .taken)
+returns c = is-first _ (spelled Content-Type) _ (c .before .spells .ensures) (c .if1 .taken)
 
 slice-aggregate-spells-3 : tie.Need-slice-aggregate-spells-3
 slice-aggregate-spells-3 c = search needs
@@ -32,7 +32,7 @@ unfolding spellings
 returns-2 c =
     let f = c .before .before .before .before in
     is-other _ _ _ (f .before .spells .ensures) (f .if1 .left) (
-    is-first _ _ _ (c .before .spells2 .ensures) (c .if2 .taken))
+    is-first _ (spelled Content-Length) _ (c .before .spells2 .ensures) (c .if2 .taken))
 
 slice-aggregate-spells-5 : tie.Need-slice-aggregate-spells-5
 slice-aggregate-spells-5 c = search needs
@@ -50,7 +50,7 @@ returns-3 c =
     let f = g .before .before .before .before in
     is-other _ _ _ (f .before .spells .ensures) (f .if1 .left) (
     is-other _ _ _ (g .before .spells2 .ensures) (g .if2 .left) (
-    is-first _ _ _ (c .before .spells3 .ensures) (c .if3 .taken)))
+    is-first _ (spelled Event) _ (c .before .spells3 .ensures) (c .if3 .taken)))
 
 slice-aggregate-same-text : tie.Need-slice-aggregate-same-text
 slice-aggregate-same-text c = search needs
@@ -67,7 +67,7 @@ returns-4 c =
     is-other _ _ _ (f .before .spells .ensures) (f .if1 .left) (
     is-other _ _ _ (g .before .spells2 .ensures) (g .if2 .left) (
     is-other _ _ _ (h .before .spells3 .ensures) (h .if3 .left) (
-    is-first _ _ _ (named-one _ _ _ (c .before .same-text .ensures)) (c .if4 .taken))))
+    is-first _ (spelled Expires) _ (named-one _ _ _ (c .before .same-text .ensures)) (c .if4 .taken))))
 
 slice-aggregate-same-text-2 : tie.Need-slice-aggregate-same-text-2
 slice-aggregate-same-text-2 c = search needs
@@ -86,7 +86,7 @@ returns-5 c =
     is-other _ _ _ (g .before .spells2 .ensures) (g .if2 .left) (
     is-other _ _ _ (h .before .spells3 .ensures) (h .if3 .left) (
     is-other _ _ _ (named-one _ _ _ (k .before .same-text .ensures)) (k .if4 .left) (
-    is-first _ _ _ (named-one _ _ _ (c .before .same-text2 .ensures)) (c .if5 .taken)))))
+    is-first _ (spelled SIP-If-Match) _ (named-one _ _ _ (c .before .same-text2 .ensures)) (c .if5 .taken)))))
 
 returns-6 : tie.Need-returns-6
 unfolding spellings

@@ -1,8 +1,8 @@
 -- The names are compared in their order, the first five here; the place of the first that fits is given.
 use native.Mathlib.Omega.{arith}
 use borrow.Author.Needs.{needs}
-use Rattle.request.specs.Names.{spellings, nameNumber}
-use Rattle.request.proofs.NumberedLaws.{five-more, late-within, named-one, is-first, is-other}
+use Rattle.request.specs.Names.{Via, From, To, Call-ID, CSeq, spellings, nameNumber}
+use Rattle.request.proofs.NumberedLaws.{spelled, five-more, late-within, named-one, is-first, is-other}
 use Rattle.request.proofs.names.name_number.Statement.{statement}
 use Rattle.request.proofs.names.name_number.Tie as tie
 
@@ -17,7 +17,7 @@ spells-requires c κs = search needs
 
 returns : tie.Need-returns
 unfolding nameNumber spellings
-returns c = is-first _ _ _ (c .before .spells .ensures) (c .if1 .taken)
+returns c = is-first _ (spelled Via) _ (c .before .spells .ensures) (c .if1 .taken)
 
 slice-aggregate-spells-3 : tie.Need-slice-aggregate-spells-3
 slice-aggregate-spells-3 c = search needs
@@ -33,7 +33,7 @@ unfolding nameNumber spellings
 returns-2 c =
     let f = c .before .before .before .before in
     is-other _ _ _ (f .before .spells .ensures) (f .if1 .left) (
-    is-first _ _ _ (c .before .spells2 .ensures) (c .if2 .taken))
+    is-first _ (spelled From) _ (c .before .spells2 .ensures) (c .if2 .taken))
 
 slice-aggregate-spells-5 : tie.Need-slice-aggregate-spells-5
 slice-aggregate-spells-5 c = search needs
@@ -51,7 +51,7 @@ returns-3 c =
     let f = g .before .before .before .before in
     is-other _ _ _ (f .before .spells .ensures) (f .if1 .left) (
     is-other _ _ _ (g .before .spells2 .ensures) (g .if2 .left) (
-    is-first _ _ _ (c .before .spells3 .ensures) (c .if3 .taken)))
+    is-first _ (spelled To) _ (c .before .spells3 .ensures) (c .if3 .taken)))
 
 slice-aggregate-spells-7 : tie.Need-slice-aggregate-spells-7
 slice-aggregate-spells-7 c = search needs
@@ -71,7 +71,7 @@ returns-4 c =
     is-other _ _ _ (f .before .spells .ensures) (f .if1 .left) (
     is-other _ _ _ (g .before .spells2 .ensures) (g .if2 .left) (
     is-other _ _ _ (h .before .spells3 .ensures) (h .if3 .left) (
-    is-first _ _ _ (c .before .spells4 .ensures) (c .if4 .taken))))
+    is-first _ (spelled Call-ID) _ (c .before .spells4 .ensures) (c .if4 .taken))))
 
 slice-aggregate-same-text : tie.Need-slice-aggregate-same-text
 slice-aggregate-same-text c = search needs
@@ -90,7 +90,7 @@ returns-5 c =
     is-other _ _ _ (g .before .spells2 .ensures) (g .if2 .left) (
     is-other _ _ _ (h .before .spells3 .ensures) (h .if3 .left) (
     is-other _ _ _ (k .before .spells4 .ensures) (k .if4 .left) (
-    is-first _ _ _ (named-one _ _ _ (c .before .same-text .ensures)) (c .if5 .taken)))))
+    is-first _ (spelled CSeq) _ (named-one _ _ _ (c .before .same-text .ensures)) (c .if5 .taken)))))
 
 late-number-requires : tie.Need-late-number-requires
 late-number-requires c κs = search needs

@@ -1,4 +1,5 @@
 -- In each arm the state is the one that the arm names, and the tests of the byte are those of the definition.
+use mathlib.Core.Path.{refl}
 use borrow.Author.Tests.{eq-eqb, ne-eqb}
 use Rattle.request.specs.To.{nextQuote}
 use borrow.Author.Needs.{needs}
@@ -28,7 +29,7 @@ returns-3 c = rw (c .before .enum-told .given .1, ne-eqb _ _ (c .if1 .left))
 
 returns-4 : tie.Need-returns-4
 unfolding nextQuote
-returns-4 c = rw (c .before .before .enum-told2 .given .1, ne-eqb _ _ (c .before .if2 .left), eq-eqb _ _ (c .if3 .taken))
+returns-4 c = rw (c .before .before .enum-told2 .given .1, ne-eqb _ _ (c .before .if2 .left), eq-eqb _ _ (c .if3 .taken)) refl
 
 returns-5 : tie.Need-returns-5
 unfolding nextQuote
