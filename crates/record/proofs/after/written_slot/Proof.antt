@@ -1,4 +1,5 @@
 -- Each way through the code is one way the test for a body goes.
+use mathlib.Core.Path.{refl}
 use borrow.Author.Needs.{needs}
 use native.Mathlib.Omega.{arith}
 use borrow.Author.Tests.{lt-ltb, le-ltb}
@@ -19,7 +20,7 @@ returns : tie.Need-returns
 unfolding written givenTag hasBody successNumber
 returns c =
     let x = c .before .before .before .before .before .args .x in
-    rw (c .before .before .before .before .given-tag .ensures, le-ltb 0 (x .length) (omega arith))
+    rw (← c .before .before .before .before .given-tag .ensures, le-ltb 0 (x .length) (omega arith)) refl
 
 add-t8 : tie.Need-add-t8
 add-t8 c = search needs
@@ -28,7 +29,7 @@ returns-2 : tie.Need-returns-2
 unfolding written givenTag hasBody successNumber
 returns-2 c =
     let x = c .before .before .before .before .before .before .args .x in
-    rw (c .before .before .before .before .before .given-tag .ensures, lt-ltb 0 (x .length) (omega arith))
+    rw (← c .before .before .before .before .before .given-tag .ensures, lt-ltb 0 (x .length) (omega arith)) refl
 
 pub written-slot-spec : {M : Type 1} → statement M
 written-slot-spec =

@@ -1,4 +1,5 @@
 -- Where the slot is occupied the answer is whether the clock is below its end.
+use mathlib.Core.Path.{refl}
 use borrow.Author.Tests.{not-true, not-false}
 use Rattle.record.specs.Places.{isLive}
 use Rattle.record.proofs.slots.is_live.Statement.{statement}
@@ -10,7 +11,7 @@ returns c = rw (not-true (c .before .args .taken) (c .if1 .taken))
 
 returns-2 : tie.Need-returns-2
 unfolding isLive
-returns-2 c = rw (not-false (c .before .before .args .taken) (c .before .if1 .left))
+returns-2 c = rw (not-false (c .before .before .args .taken) (c .before .if1 .left)) refl
 
 pub is-live-spec : {M : Type 1} → statement M
 is-live-spec = tie.close (tie.spec returns returns-2)

@@ -1,4 +1,5 @@
 -- Each way through the code is one way the tests go.
+use mathlib.Core.Path.{refl}
 use borrow.Author.Needs.{needs}
 use native.Mathlib.Omega.{arith}
 use borrow.Author.Tests.{eq-eqb, ne-eqb, lt-ltb, le-ltb}
@@ -7,7 +8,7 @@ use Rattle.record.proofs.store.kept.Statement.{statement}
 use Rattle.record.proofs.store.kept.Tie as tie
 
 returns : tie.Need-returns
-returns c = (rw (ne-eqb _ _ (c .if1 .taken)), search needs)
+returns c = (rw (ne-eqb _ _ (c .if1 .taken)) refl, search needs)
 
 cast-result : tie.Need-cast-result
 cast-result c = search needs
