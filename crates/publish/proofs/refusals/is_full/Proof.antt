@@ -1,5 +1,5 @@
 -- The three tests are asked in the order of the definition, and the first that fails decides.
-use mathlib.Core.Path.{sym, _∙_}
+use mathlib.Core.Path.{refl, sym, _∙_}
 use borrow.Author.Needs.{needs}
 use Rattle.publish.specs.Refusals.{isFull}
 use Rattle.publish.proofs.RefusalLaws.{none-above, some-above}
@@ -34,7 +34,7 @@ returns-3 c =
       sym (c .before .before .before .before .has-match .ensures) ∙ c .before .before .before .if1 .left,
       some-above (c .before .before .granted-time .ensures) (c .before .if2 .left),
       c .live-count .ensures,
-    )
+    ) refl
 
 pub is-full-spec : {M : Type 1} → statement M
 is-full-spec =

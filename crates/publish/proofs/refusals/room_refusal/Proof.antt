@@ -1,5 +1,5 @@
 -- The rows are tried in their order, and the first that applies is the answer.
-use mathlib.Core.Path.{sym, _∙_}
+use mathlib.Core.Path.{refl, sym, _∙_}
 use borrow.Author.Tests.{eq-eqb, ne-eqb}
 use borrow.Author.Needs.{needs}
 use Rattle.laws.specs.First.{firstOf}
@@ -24,7 +24,7 @@ returns-2 c =
       ne-eqb _ _ (c .before .before .before .if1 .left),
       sym (c .before .before .is-full .ensures) ∙ c .before .if2 .taken,
       c .retry-after .ensures,
-    )
+    ) refl
 
 returns-3 : tie.Need-returns-3
 unfolding roomRows firstOf

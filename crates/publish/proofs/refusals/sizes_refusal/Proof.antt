@@ -1,5 +1,5 @@
 -- The rows are tried in their order, and the first that applies is the answer.
-use mathlib.Core.Path.{sym, _∙_}
+use mathlib.Core.Path.{refl, sym, _∙_}
 use borrow.Author.Tests.{lt-ltb, le-ltb}
 use borrow.Author.Needs.{needs}
 use Rattle.laws.specs.First.{firstOf}
@@ -25,7 +25,7 @@ returns-3 c =
       le-ltb _ _ (c .before .before .before .if1 .left),
       sym (c .before .before .is-bad-size .ensures) ∙ c .before .if2 .left,
       lt-ltb _ _ (c .if3 .taken),
-    )
+    ) refl
 
 returns-4 : tie.Need-returns-4
 unfolding sizeRows firstOf
