@@ -109,3 +109,12 @@ pub part-rest : (s : List ℕ) (a e : ℕ) → length s ≤ e → part s a e ≡
 unfolding part
 part-rest s a e h =
     take-all (e - a) (drop a s) (omega (arith, length-drop a s)) ∙ sym (take-all (length s - a) (drop a s) (omega (arith, length-drop a s)))
+
+-- n bytes from a position on are the first n of all that is left
+pub part-front : (s : List ℕ) (a n : ℕ) → part (part s a (length s)) 0 n ≡ part s a (a + n)
+unfolding part
+part-front s a n =
+    let all : take (length s - a) (drop a s) ≡ drop a s = take-all (length s - a) (drop a s) (omega (arith, length-drop a s)) in
+    let size : a + n - a ≡ n = omega arith in
+    let whole : n - 0 ≡ n = omega arith in
+    rw (all, size, whole)

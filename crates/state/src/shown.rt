@@ -13,13 +13,8 @@ ghost use Rattle.state.specs.Gathered.{stateGathered, ReadGathered};
 fn stored(store: &[u8], from: usize, n: usize) -> &[u8]
     ensures { λ r. ⌜ now r ≡ part (now (store .entry)) from (from + n) ⌝ }
 {
-    if store.len() <= from {
-        return &store[0..0];
-    }
-    if store.len() - from <= n {
-        return &store[from..];
-    }
-    text::part::part_of(store, from, from + n)
+    let rest = text::part::part_of(store, from, store.len());
+    text::part::part_of(rest, 0, n)
 }
 
 // What is shown, as the slice that it is a part of has it. Any position and any length may be asked for.
