@@ -1,0 +1,53 @@
+-- The moments of a history: none of an empty one, and of a longer one the first exchange and the moments of the others. So what holds
+-- after every front of the inputs, of what comes back next, holds at every moment.
+use mathlib.Core.Path.{_≡_, sym, _∙_, ap, subst}
+use mathlib.Core.Bool.{true, true≢false}
+use mathlib.Core.List.{List, [], _∷_, _++_}
+use Prim.Native.Nat.{ℕ}
+use Rattle.laws.specs.Lists.{empty}
+use Rattle.record.specs.declared.Record.{Record}
+use Rattle.publish.specs.Step.{ownAfter, partAfterwards}
+use Rattle.table.specs.Handle.{Input}
+use Rattle.table.specs.Run.{Exchange}
+use Rattle.runs.specs.Alone.{Life, caseAt, answered, behind, aloneFrom}
+use Rattle.runs.specs.Tags.{Moment}
+
+-- the first of some exchanges
+abbrev firstOr : Exchange → List Exchange → Exchange
+firstOr z [] = z
+firstOr z (y ∷ ys) = y
+
+-- and those behind it
+abbrev others : List Exchange → List Exchange
+others [] = []
+others (y ∷ ys) = ys
+
+-- an empty history has no moment
+pub no-moment : Moment [] → ⊥
+unfolding empty
+no-moment m = go (m .before) (m .is)
+  where
+    go : (before : List Exchange) → [] ≡ before ++ (m .now ∷ m .later) → ⊥
+    go [] e = true≢false (ap empty e)
+    go (y ∷ before) e = true≢false (ap empty e)
+
+-- what holds of the first exchange, and at each moment of the others with the first before it, holds at each moment
+pub each-moment : (Q : List Exchange → Exchange → Type 0) (x : Exchange) (xs : List Exchange) → Q [] x → ((m : Moment xs) → Q (x ∷ m .before) (m .now))
+    → (m : Moment (x ∷ xs)) → Q (m .before) (m .now)
+each-moment Q x xs first rest m = go (m .before) (m .is)
+  where
+    go : (before : List Exchange) → x ∷ xs ≡ before ++ (m .now ∷ m .later) → Q before (m .now)
+    go [] e = subst (Q []) (ap (firstOr x) e) first
+    go (y ∷ before) e =
+        subst (λ (z : Exchange). Q (z ∷ before) (m .now)) (ap (firstOr x) e)
+        (rest (record { before = before; now = m .now; later = m .later; is = ap others e }))
+
+-- what holds after every front of some inputs to an address alone, of what comes back next, holds at each moment of its history
+pub each-front : (Q : List Exchange → Exchange → Type 0) (r : Record) (bs : List ℕ)
+    → ((front : List Input) (x : Input) → Q (aloneFrom r bs front .exchanges) (answered x (caseAt true (aloneFrom r bs front .own) x)))
+    → (xs : List Input) (m : Moment (aloneFrom r bs xs .exchanges)) → Q (m .before) (m .now)
+unfolding aloneFrom behind
+each-front Q r bs holds [] m = absurd (no-moment m)
+each-front Q r bs holds (x ∷ xs) m =
+    each-moment Q (answered x (caseAt true r x)) (aloneFrom _ _ xs .exchanges) (holds [] x)
+    (each-front (λ before now. Q (answered x (caseAt true r x) ∷ before) now) _ _ (λ front y. holds (x ∷ front) y) xs) m

@@ -1,0 +1,5 @@
+pub mod Run
+pub mod Added
+pub mod Reach
+pub mod Alone
+pub mod Tags
