@@ -6,3 +6,6 @@ pub mod Lives
 pub mod Outcome
 pub mod Moments
 pub mod Elsewhere
+pub mod Lists
+pub mod Adding
+pub mod Begun

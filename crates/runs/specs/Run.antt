@@ -2,12 +2,14 @@
 use Prim.Native.Nat.{ℕ}
 use mathlib.Core.Path.{_≡_}
 use mathlib.Core.Bool.{Bool, true, false, _&&_}
-use mathlib.Core.List.{List, map}
-use lib.Dec.{ltb, leb}
+use mathlib.Core.List.{List, [], _∷_, map}
+use lib.Dec.{ltb, leb, eqb}
 use lib.ListN.{length}
+use Rattle.laws.specs.Choose.{pick}
 use Rattle.laws.specs.Lists.{every}
 use Rattle.table.specs.Table.{Table, badSize}
-use Rattle.table.specs.Add.{Entry}
+use Rattle.table.specs.Open.{opened}
+use Rattle.table.specs.Add.{Entry, added}
 use Rattle.table.specs.Handle.{Input}
 use Rattle.table.specs.Run.{Sending, Exchange, Given, ran}
 
@@ -49,3 +51,15 @@ tableAtEnd r = given r .table
 -- the inputs that are sent, in their order
 unfoldable pub inputs : Run → List Input
 inputs r = map (λ x. x .input) (r .sendings)
+
+-- the entries of a list that `add` accepts with result 0, one after the other
+unfoldable pub acceptedFrom : List Entry → Table → List Entry
+acceptedFrom [] t = []
+acceptedFrom (e ∷ es) t =
+    let d = added e t in
+    let r = acceptedFrom es (d .table) in
+    pick (eqb (d .result) 0) (e ∷ r) r
+
+-- the entries that `add` accepts
+unfoldable pub accepted : Run → List Entry
+accepted r = acceptedFrom (r .entries) (opened (r .lent) .table)
