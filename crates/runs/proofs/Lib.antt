@@ -9,3 +9,14 @@ pub mod Elsewhere
 pub mod Lists
 pub mod Adding
 pub mod Begun
+pub mod Kept
+pub mod Matches
+pub mod Succeeds
+pub mod Told
+pub mod Matched
+pub mod Latest
+pub mod Live
+pub mod Fresh
+pub mod Standing
+pub mod Given
+pub mod Promises

@@ -1,10 +1,11 @@
 -- The moments of a history: none of an empty one, and of a longer one the first exchange and the moments of the others. So what holds
 -- after every front of the inputs, of what comes back next, holds at every moment.
-use mathlib.Core.Path.{_≡_, sym, _∙_, ap, subst}
-use mathlib.Core.Bool.{true, true≢false}
+use mathlib.Core.Path.{_≡_, refl, ap, subst}
+use mathlib.Core.Bool.{Bool, true, false, true≢false}
 use mathlib.Core.List.{List, [], _∷_, _++_}
 use Prim.Native.Nat.{ℕ}
-use Rattle.laws.specs.Lists.{empty}
+use Rattle.laws.specs.Choose.{pick}
+use Rattle.laws.specs.Lists.{those, empty}
 use Rattle.record.specs.declared.Record.{Record}
 use Rattle.publish.specs.Step.{ownAfter, partAfterwards}
 use Rattle.table.specs.Handle.{Input}
@@ -41,6 +42,16 @@ each-moment Q x xs first rest m = go (m .before) (m .is)
     go (y ∷ before) e =
         subst (λ (z : Exchange). Q (z ∷ before) (m .now)) (ap (firstOr x) e)
         (rest (record { before = before; now = m .now; later = m .later; is = ap others e }))
+
+-- an exchange that a test chose passes it
+pub chosen-passes : (f : Exchange → Bool) (xs : List Exchange) (m : Moment (those f xs)) → f (m .now) ≡ true
+unfolding those
+chosen-passes f [] m = absurd (no-moment m)
+chosen-passes f (x ∷ xs) m = go (f x) refl (chosen-passes f xs) m
+  where
+    go : (b : Bool) → f x ≡ b → ((m : Moment (those f xs)) → f (m .now) ≡ true) → (m : Moment (pick b (x ∷ those f xs) (those f xs))) → f (m .now) ≡ true
+    go true e deep m = each-moment (λ before now. f now ≡ true) x (those f xs) e deep m
+    go false e deep m = deep m
 
 -- what holds after every front of some inputs to an address alone, of what comes back next, holds at each moment of its history
 pub each-front : (Q : List Exchange → Exchange → Type 0) (r : Record) (bs : List ℕ)

@@ -43,14 +43,14 @@ module _ {A : Type 0} where
       go false k = refl
 
 -- the rows from 404 on
-pub rowsFrom : Bool → Record → Input → List (Row Outcome)
+unfoldable pub rowsFrom : Bool → Record → Input → List (Row Outcome)
 rowsFrom known r x =
     let s = x .request in
     let h = headOf s in
     addressRows known r (x .clock) s h ++ (contentRows s h ++ roomRows r (x .clock) s h)
 
 -- what they come to
-pub outcomeFrom : Bool → Record → Input → Outcome
+unfoldable pub outcomeFrom : Bool → Record → Input → Outcome
 outcomeFrom known r x = firstOf (rowsFrom known r x) (Granted (givenTag r) (granted (x .request) (headOf (x .request))))
 
 -- the rows before 404 decide where one of them applies, and otherwise those from 404 on do

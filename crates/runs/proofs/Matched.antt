@@ -1,0 +1,86 @@
+-- An input that presents a tag and passes the checks before 412, at a record: it is matched exactly where the record has a live
+-- publication of its package with that tag.
+use mathlib.Core.Path.{_≡_, refl, _∙_, ap}
+use mathlib.Core.Bool.{Bool, true, false, not, _||_}
+use mathlib.Core.List.{List, [], _∷_, _++_}
+use Prim.Native.Nat.{ℕ, suc, _≤_}
+use native.Mathlib.Omega.{arith}
+use lib.Dec.{ltb, eqb}
+use lib.ListN.{length}
+use borrow.Author.Tests.{lt-ltb, le-ltb, ltb-true, ltb-false}
+use Rattle.laws.specs.Choose.{pick}
+use Rattle.laws.specs.First.{firstOf}
+use Rattle.laws.specs.Lists.{any, every, placeOf}
+use Rattle.request.specs.Head.{headOf}
+use Rattle.request.specs.Fields.{isBadMatch}
+use Rattle.record.specs.Places.{places, matching}
+use Rattle.record.specs.After.{givenTag}
+use Rattle.record.specs.declared.Record.{Record}
+use Rattle.record.proofs.StoreLaws.{placesIn-length}
+use Rattle.publish.specs.Outcomes.{statusOf}
+use Rattle.publish.specs.Refusals.{addressRows, contentRows, roomRows, isUnmatched, isBadEvent, presented, granted}
+use Rattle.publish.specs.declared.Outcome.{Outcome}
+use Rattle.publish.specs.declared.Outcome.the-variants.{Refused, Granted}
+use Rattle.publish.specs.declared.Field.the-variants.{Nothing}
+use Rattle.table.specs.Handle.{Input}
+use Rattle.runs.specs.Reach.{isRead}
+use Rattle.runs.specs.Alone.{caseAt, answered}
+use Rattle.runs.specs.Tags.{hasTag, tagIn, packageIn, cameBack, matched}
+use Rattle.runs.proofs.Outcome.{first-fails, outcomeFrom, rowsFrom, outcome-read}
+use Rattle.runs.proofs.Kept.{Kept}
+use Rattle.runs.proofs.Succeeds.{fits}
+
+-- the record has a live publication of that package with that tag
+abbrev pub holds : ℕ → ℕ → List ℕ → Record → Bool
+holds clock p w r = any (fits clock p w) (places r)
+
+-- both numbers one more
+ltb-suc : (a b : ℕ) → ltb (suc a) (suc b) ≡ ltb a b
+ltb-suc a b = go (ltb a b) refl
+  where
+    go : (c : Bool) → ltb a b ≡ c → ltb (suc a) (suc b) ≡ c
+    go true e = lt-ltb (suc a) (suc b) (omega (arith, ltb-true a b e))
+    go false e = le-ltb (suc a) (suc b) (omega (arith, ltb-false a b e))
+
+-- a place is found exactly where an element passes
+found-any : {A : Type 0} (f : A → Bool) (xs : List A) → ltb (placeOf f xs) (length xs) ≡ any f xs
+unfolding placeOf any
+found-any f [] = refl
+found-any f (x ∷ xs) = go (f x) (found-any f xs)
+  where
+    go : (b : Bool) → ltb (placeOf f xs) (length xs) ≡ any f xs → ltb (pick b 0 (suc (placeOf f xs))) (suc (length xs)) ≡ (b || any f xs)
+    go true deep = lt-ltb 0 (suc (length xs)) (omega arith)
+    go false deep = ltb-suc (placeOf f xs) (length xs) ∙ deep
+
+-- so a live publication matches exactly where the record has one
+pub matches : (clock p : ℕ) (w : List ℕ) (r : Record) → Kept r → ltb (matching clock p w r) 8 ≡ holds clock p w r
+unfolding matching places
+matches clock p w r kept =
+    let size : length (places r) ≡ 8 = placesIn-length (r .map) (r .slots) ∙ kept .eight in
+    rw (← size) (found-any (fits clock p w) (places r))
+
+-- no 412 is given behind 412
+behind-412 : (r : Record) (x : Input)
+    → eqb (statusOf (firstOf (contentRows (x .request) (headOf (x .request)) ++ roomRows r (x .clock) (x .request) (headOf (x .request)))
+    (Granted (givenTag r) (granted (x .request) (headOf (x .request)))))) 412 ≡ false
+unfolding contentRows roomRows every statusOf
+behind-412 r x = first-fails (λ o. eqb (statusOf o) 412) _ _ refl refl
+
+-- an input that presents a tag and passes the checks before 412 is matched exactly where the record has such a publication
+pub matched-at : (r : Record) (x : Input) → Kept r → isRead x ≡ true → hasTag x ≡ true → isBadEvent (x .request) (headOf (x .request)) ≡ false
+    → r .clock ≤ x .clock → isBadMatch (x .request) (headOf (x .request)) ≡ false
+    → matched (answered x (caseAt true r x)) ≡ holds (x .clock) (packageIn x) (tagIn x) r
+unfolding matched cameBack answered outcomeFrom rowsFrom addressRows firstOf isUnmatched presented hasTag tagIn packageIn statusOf
+matched-at r x kept read tag event clock token =
+    rw (outcome-read true r x read, event, le-ltb (x .clock) (r .clock) clock, token, tag, matches (x .clock) (packageIn x) (tagIn x) r kept)
+    (go (holds (x .clock) (packageIn x) (tagIn x) r))
+  where
+    rest : Outcome
+    rest =
+        firstOf (contentRows (x .request) (headOf (x .request)) ++ roomRows r (x .clock) (x .request) (headOf (x .request)))
+        (Granted (givenTag r) (granted (x .request) (headOf (x .request))))
+
+    go : (b : Bool) → not (eqb (statusOf (pick (not b) (Refused 412 Nothing) rest)) 412) ≡ b
+    go true = ap not (behind-412 r x)
+    go false = refl
+
