@@ -20,3 +20,5 @@ pub mod Fresh
 pub mod Standing
 pub mod Given
 pub mod Promises
+pub mod Checks
+pub mod Facts

@@ -34,3 +34,9 @@ lives a (x ∷ xs) t f k = go (isFor a x) refl (lives a xs (tableIn t x) (fine-i
         rw e (ap₂ behind (s .exchange) (deep ∙ ap₂ (λ r bs. aloneFrom r bs (those (isFor a) xs)) (s .own) (s .part)))
     go false e deep =
         let s = left t x f a k e in rw e (deep ∙ ap₂ (λ r bs. aloneFrom r bs (those (isFor a) xs)) (s .own) (s .part))
+
+-- and an address that is there stays there
+pub known-sent : (a : List ℕ) (xs : List Input) (t : Table) → Fine t → isKnown a (sendIn xs t .table) ≡ isKnown a t
+unfolding sendIn inFrontOf
+known-sent a [] t f = refl
+known-sent a (x ∷ xs) t f = known-sent a xs (tableIn t x) (fine-in t x f) ∙ known-same t x f a
