@@ -19,6 +19,8 @@ use Rattle.table.specs.Handle.{caseOf}
 use Rattle.table.specs.Run.{Sending}
 use Rattle.runs.specs.Run.{hasRoom}
 use Rattle.runs.specs.Reach.{rowsBefore, isRead}
+use Rattle.runs.proofs.Bools.{none-of-three}
+use Rattle.runs.proofs.Lists.{any-append}
 use Rattle.runs.proofs.Fine.{Fine}
 use Rattle.runs.proofs.Sent.{uri, ownIn}
 
@@ -29,23 +31,6 @@ not-above a b = go (ltb b a) refl
     go : (c : Bool) → ltb b a ≡ c → leb a b ≡ not c
     go true e = lt-leb a b (ltb-true b a e)
     go false e = le-leb a b (ltb-false b a e)
-
--- an element of two lists passes a test: one of the first, or one of the second
-any-append : {A : Type 0} (f : A → Bool) (xs ys : List A) → any f (xs ++ ys) ≡ (any f xs || any f ys)
-unfolding any
-any-append f [] ys = refl
-any-append f (x ∷ xs) ys = ap (λ (b : Bool). f x || b) (any-append f xs ys) ∙ go (f x)
-  where
-    go : (b : Bool) → (b || (any f xs || any f ys)) ≡ ((b || any f xs) || any f ys)
-    go true = refl
-    go false = refl
-
--- three tests that fail, one by one and together
-none-of-three : (a b c : Bool) → (not a && (not b && not c)) ≡ not (a || (b || (c || false)))
-none-of-three true b c = refl
-none-of-three false true c = refl
-none-of-three false false true = refl
-none-of-three false false false = refl
 
 -- one of some rows applies
 abbrev pub someApplies : List (Row Outcome) → Bool

@@ -23,9 +23,9 @@ use Rattle.table.specs.Add.{Entry}
 use Rattle.table.specs.Handle.{Input}
 use Rattle.table.specs.Run.{Exchange, inFrontOf}
 use Rattle.runs.specs.Added.{isOf, isAmong}
-use Rattle.runs.specs.Reach.{isRead, isFor}
+use Rattle.runs.specs.Reach.{isRead, isFor, Moment}
 use Rattle.runs.specs.Alone.{caseAt, answered, elsewhere}
-use Rattle.runs.specs.Tags.{Moment, cameBack}
+use Rattle.runs.specs.Tags.{cameBack}
 use Rattle.runs.proofs.Fine.{Fine}
 use Rattle.runs.proofs.Sent.{uri, ownIn, caseIn, tableIn, sendIn, fine-in}
 use Rattle.runs.proofs.Own.{known-same}

@@ -28,8 +28,8 @@ use Rattle.runs.proofs.Sent.{uri}
 use Rattle.runs.proofs.Lives.{known-sent}
 use Rattle.runs.proofs.Begun.{added-accepted, known-begun}
 use Rattle.runs.proofs.Given.{given-in, exchanges-in, inputs-back, few-spent}
-use Rattle.runs.proofs.Matched.{matches}
-use Rattle.runs.proofs.Live.{kept-alone, clock-alone, live-alone}
+use Rattle.runs.proofs.Tried.{matches}
+use Rattle.runs.proofs.History.{kept-alone, clock-alone, live-alone}
 use Rattle.runs.proofs.Standing.{stands-tested}
 use Rattle.runs.proofs.Checks.{checks}
 use Rattle.runs.proofs.Promises.{C1}

@@ -20,7 +20,7 @@ use Rattle.publish.specs.Step.{successOf, ownAfter, partAfterwards}
 use Rattle.table.specs.Handle.{Input}
 use Rattle.table.specs.Run.{Exchange}
 use Rattle.table.proofs.GrantedLaws.{grants}
-use Rattle.runs.specs.Alone.{caseAt, answered, behind, aloneFrom}
+use Rattle.runs.specs.Alone.{caseAt, answered, beginning, aloneFrom}
 use Rattle.runs.specs.Tags.{cameBack, succeeded, tagOfOutcome, tagGiven, tagsGiven, allDiffer}
 use Rattle.runs.proofs.Succeeds.{gives}
 
@@ -55,7 +55,7 @@ one-more r x ts h f =
 
 -- the tags that an address alone gives follow the record from which it goes on
 pub follows : (r : Record) (bs : List ℕ) (xs : List Input) → r .spent ≤ 4294967295 → Follows r (tagsGiven (aloneFrom r bs xs .exchanges))
-unfolding aloneFrom behind tagsGiven those pairwise every allDiffer succeeded cameBack answered ownAfter caseAt tagGiven tagOfOutcome recordAfter successNumber
+unfolding aloneFrom beginning tagsGiven those pairwise every allDiffer succeeded cameBack answered ownAfter caseAt tagGiven tagOfOutcome recordAfter successNumber
 follows r bs [] h = record { differ = refl; none-again = λ k i j. refl }
 follows r bs (x ∷ xs) h =
     go (isSuccess (outcomeOf (caseAt true r x))) refl (follows (ownAfter (caseAt true r x)) (partAfterwards (caseAt true r x) bs) xs)

@@ -16,9 +16,9 @@ use Rattle.publish.specs.Step.{successOf, successFor, ownAfter, partAfterwards}
 use Rattle.table.specs.Handle.{Input}
 use Rattle.table.specs.Run.{Exchange}
 use Rattle.table.proofs.GrantedLaws.{grants}
-use Rattle.runs.specs.Alone.{caseAt, answered, behind, aloneFrom}
+use Rattle.runs.specs.Alone.{caseAt, answered, beginning, aloneFrom}
 use Rattle.runs.specs.Tags.{cameBack, succeeded, isNotBack}
-use Rattle.runs.proofs.Matches.{and-holds, and-none}
+use Rattle.runs.proofs.Bools.{and-true, and-false}
 
 -- what is not above a clock below another is not above that
 covers : (a b clock : ℕ) (n : Bool) → a ≤ b → (leb b clock && n) ≡ (leb a clock && (leb b clock && n))
@@ -26,7 +26,7 @@ covers a b clock n h = go (leb b clock) refl
   where
     go : (c : Bool) → leb b clock ≡ c → (c && n) ≡ (leb a clock && (c && n))
     go true e = rw (le-leb a clock (omega (arith, leb-true b clock e)))
-    go false e = sym (and-none (leb a clock))
+    go false e = sym (and-false (leb a clock))
 
 -- one input more in front
 step : (clock : ℕ) (r : Record) (x : Input) (later : List Exchange)
@@ -46,8 +46,8 @@ step clock r x later = go (isSuccess (outcomeOf (caseAt true r x))) refl
 -- the record's clock is not above one exactly where it was not before the inputs, and no success was above it
 pub latest : (clock : ℕ) (r : Record) (bs : List ℕ) (xs : List Input)
     → leb (aloneFrom r bs xs .own .clock) clock ≡ (leb (r .clock) clock && isNotBack clock (aloneFrom r bs xs .exchanges))
-unfolding aloneFrom behind isNotBack those every
-latest clock r bs [] = sym (and-holds (leb (r .clock) clock))
+unfolding aloneFrom beginning isNotBack those every
+latest clock r bs [] = sym (and-true (leb (r .clock) clock))
 latest clock r bs (x ∷ xs) =
     let c = caseAt true r x in
     latest clock (ownAfter c) (partAfterwards c bs) xs ∙ step clock r x (aloneFrom (ownAfter c) (partAfterwards c bs) xs .exchanges)

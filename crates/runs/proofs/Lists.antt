@@ -1,17 +1,20 @@
 -- Laws of lists that name nothing of a table: where the first element stands that passes a test, copies, and zeros put among zeros.
 use mathlib.Core.Path.{_≡_, refl, sym, _∙_, ap}
-use mathlib.Core.Bool.{Bool, true, false, _||_, true≢false}
+use mathlib.Core.Bool.{Bool, true, false, _||_}
 use mathlib.Core.List.{List, [], _∷_, _++_, map}
 use Prim.Native.Nat.{ℕ, zero, suc, _+_, _<_, _≤_}
 use native.Mathlib.Nat.{not-suc-le-zero, le-of-suc-le-suc, zero-add}
 use native.Mathlib.Omega.{arith}
-use lib.ListN.{length, getD, replicate, length-replicate, getD-replicate}
+use lib.Dec.{ltb}
+use lib.ListN.{length, getD, set, replicate, length-replicate, getD-replicate}
 use lib.Seq.{ext-getD}
+use borrow.Author.Tests.{ltb-true, ltb-false, lt-ltb, le-ltb}
 use Rattle.laws.specs.Choose.{pick}
 use Rattle.laws.specs.Lists.{any, every, placeOf, part, putAt}
 use Rattle.laws.proofs.Tests.{every-head, every-tail, every-cons}
 use Rattle.laws.proofs.Parts.{part-length, part-at}
 use Rattle.record.proofs.PutLaws.{put-same}
+use Rattle.runs.proofs.Bools.{or-together}
 
 -- a test that always fails holds nowhere
 pub none-any : {A : Type 0} (xs : List A) → any (λ x. false) xs ≡ false
@@ -19,15 +22,40 @@ unfolding any
 none-any [] = refl
 none-any (x ∷ xs) = none-any xs
 
--- a place that is found lies in the list
-pub place-below : {A : Type 0} (g : A → Bool) (xs : List A) → any g xs ≡ true → placeOf g xs < length xs
-unfolding placeOf any
-place-below g [] k = absurd (true≢false (sym k))
-place-below g (x ∷ xs) k = go (g x) k (place-below g xs)
+-- an element of two lists passes a test: one of the first, or one of the second
+pub any-append : {A : Type 0} (f : A → Bool) (xs ys : List A) → any f (xs ++ ys) ≡ (any f xs || any f ys)
+unfolding any
+any-append f [] ys = refl
+any-append f (x ∷ xs) ys = ap (λ (b : Bool). f x || b) (any-append f xs ys) ∙ or-together (f x) (any f xs) (any f ys)
+
+-- both numbers one more
+below-more : (a b : ℕ) → ltb (suc a) (suc b) ≡ ltb a b
+below-more a b = go (ltb a b) refl
   where
-    go : (b : Bool) → (b || any g xs) ≡ true → (any g xs ≡ true → placeOf g xs < length xs) → pick b 0 (suc (placeOf g xs)) < suc (length xs)
-    go true k deep = omega arith
-    go false k deep = let d = deep k in omega arith
+    go : (c : Bool) → ltb a b ≡ c → ltb (suc a) (suc b) ≡ c
+    go true e = lt-ltb (suc a) (suc b) (omega (arith, ltb-true a b e))
+    go false e = le-ltb (suc a) (suc b) (omega (arith, ltb-false a b e))
+
+-- a place in the list is found exactly where an element passes
+pub place-found : {A : Type 0} (f : A → Bool) (xs : List A) → ltb (placeOf f xs) (length xs) ≡ any f xs
+unfolding placeOf any
+place-found f [] = refl
+place-found f (x ∷ xs) = go (f x) (place-found f xs)
+  where
+    go : (b : Bool) → ltb (placeOf f xs) (length xs) ≡ any f xs → ltb (pick b 0 (suc (placeOf f xs))) (suc (length xs)) ≡ (b || any f xs)
+    go true deep = lt-ltb 0 (suc (length xs)) (omega arith)
+    go false deep = below-more (placeOf f xs) (length xs) ∙ deep
+
+-- and lies in it there
+pub place-below : {A : Type 0} (f : A → Bool) (xs : List A) → any f xs ≡ true → placeOf f xs < length xs
+place-below f xs e = ltb-true (placeOf f xs) (length xs) (place-found f xs ∙ e)
+
+-- it is found as before where the element replaced passes as the new one does
+pub place-kept : {A : Type 0} (f : A → Bool) (xs : List A) (i : ℕ) (y d : A) → f y ≡ f (getD xs i d) → placeOf f (set xs i y) ≡ placeOf f xs
+unfolding placeOf
+place-kept f [] i y d e = refl
+place-kept f (x ∷ xs) zero y d e = rw e
+place-kept f (x ∷ xs) (suc i) y d e = rw (place-kept f xs i y d e)
 
 -- among copies of an element it is the first, or there is none
 pub place-copies : {A : Type 0} (f : A → Bool) (n : ℕ) (x : A) → placeOf f (replicate n x) ≡ pick (f x) 0 n

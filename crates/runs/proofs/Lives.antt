@@ -10,7 +10,7 @@ use Rattle.table.specs.Table.{Table, isKnown}
 use Rattle.table.specs.Handle.{Input}
 use Rattle.table.specs.Run.{Given, inFrontOf}
 use Rattle.runs.specs.Reach.{isFor}
-use Rattle.runs.specs.Alone.{Life, caseAt, answered, behind, aloneFrom}
+use Rattle.runs.specs.Alone.{Life, caseAt, answered, beginning, aloneFrom}
 use Rattle.runs.proofs.Fine.{Fine}
 use Rattle.runs.proofs.Sent.{ownIn, partIn, caseIn, tableIn, sendIn, fine-in}
 use Rattle.runs.proofs.Own.{Lived, Left, lived, left, known-same}
@@ -22,7 +22,7 @@ lifeIn a g = record { exchanges = those (λ x. isFor a (x .input)) (g .exchanges
 -- the address lives as if it were alone
 pub lives : (a : List ℕ) (xs : List Input) (t : Table) → Fine t → isKnown a t ≡ true
     → lifeIn a (sendIn xs t) ≡ aloneFrom (ownIn a t) (partIn a t) (those (isFor a) xs)
-unfolding sendIn inFrontOf aloneFrom behind those answered
+unfolding sendIn inFrontOf aloneFrom beginning those answered
 lives a [] t f k = refl
 lives a (x ∷ xs) t f k = go (isFor a x) refl (lives a xs (tableIn t x) (fine-in t x f) (known-same t x f a ∙ k))
   where
@@ -31,7 +31,7 @@ lives a (x ∷ xs) t f k = go (isFor a x) refl (lives a xs (tableIn t x) (fine-i
         → lifeIn a (sendIn (x ∷ xs) t) ≡ aloneFrom (ownIn a t) (partIn a t) (those (isFor a) (x ∷ xs))
     go true e deep =
         let s = lived t x f a k e in
-        rw e (ap₂ behind (s .exchange) (deep ∙ ap₂ (λ r bs. aloneFrom r bs (those (isFor a) xs)) (s .own) (s .part)))
+        rw e (ap₂ beginning (s .exchange) (deep ∙ ap₂ (λ r bs. aloneFrom r bs (those (isFor a) xs)) (s .own) (s .part)))
     go false e deep =
         let s = left t x f a k e in rw e (deep ∙ ap₂ (λ r bs. aloneFrom r bs (those (isFor a) xs)) (s .own) (s .part))
 

@@ -10,8 +10,8 @@ use Rattle.record.specs.declared.Record.{Record}
 use Rattle.publish.specs.Step.{ownAfter, partAfterwards}
 use Rattle.table.specs.Handle.{Input}
 use Rattle.table.specs.Run.{Exchange}
-use Rattle.runs.specs.Alone.{Life, caseAt, answered, behind, aloneFrom}
-use Rattle.runs.specs.Tags.{Moment}
+use Rattle.runs.specs.Reach.{Moment}
+use Rattle.runs.specs.Alone.{Life, caseAt, answered, beginning, aloneFrom}
 
 -- the first of some exchanges
 abbrev firstOr : Exchange → List Exchange → Exchange
@@ -57,7 +57,7 @@ chosen-passes f (x ∷ xs) m = go (f x) refl (chosen-passes f xs) m
 pub each-front : (Q : List Exchange → Exchange → Type 0) (r : Record) (bs : List ℕ)
     → ((front : List Input) (x : Input) → Q (aloneFrom r bs front .exchanges) (answered x (caseAt true (aloneFrom r bs front .own) x)))
     → (xs : List Input) (m : Moment (aloneFrom r bs xs .exchanges)) → Q (m .before) (m .now)
-unfolding aloneFrom behind
+unfolding aloneFrom beginning
 each-front Q r bs holds [] m = absurd (no-moment m)
 each-front Q r bs holds (x ∷ xs) m =
     each-moment Q (answered x (caseAt true r x)) (aloneFrom _ _ xs .exchanges) (holds [] x)

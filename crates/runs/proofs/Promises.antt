@@ -15,9 +15,9 @@ use Rattle.table.specs.Add.{freshRecord}
 use Rattle.table.specs.Run.{Exchange, Given, begun}
 use Rattle.runs.specs.Run.{Run, given, exchanges, tableAtEnd, inputs}
 use Rattle.runs.specs.Added.{addedIn, isAdded, entryOf}
-use Rattle.runs.specs.Reach.{isRead, isFor, isForNone, inputsFor, historyOf}
+use Rattle.runs.specs.Reach.{isRead, isFor, isForNone, inputsFor, historyOf, Moment}
 use Rattle.runs.specs.Alone.{Life, aloneFrom, alone, lifeOf, elsewhere}
-use Rattle.runs.specs.Tags.{Moment, Stands, stands, tagIn, packageIn, cameBack, isTried, matched, tagsGiven, allDiffer}
+use Rattle.runs.specs.Tags.{Stands, stands, tagIn, packageIn, cameBack, isTried, matched, tagsGiven, allDiffer}
 use Rattle.runs.proofs.Fine.{fine-begun}
 use Rattle.runs.proofs.Sent.{sendIn}
 use Rattle.runs.proofs.Lives.{lifeIn, lives}
@@ -26,7 +26,7 @@ use Rattle.runs.proofs.Given.{given-in, exchanges-in, begun-alike, few-
 use Rattle.runs.proofs.Elsewhere.{forNone, answers-none, never-of-lent}
 use Rattle.runs.proofs.Moments.{chosen-passes}
 use Rattle.runs.proofs.Standing.{stands-tested}
-use Rattle.runs.proofs.Live.{match-alone}
+use Rattle.runs.proofs.History.{match-alone}
 use Rattle.runs.proofs.Fresh.{follows}
 
 -- C1 (alone). The inputs for an address with their answers, its record and its part are those of the address by itself, from how it was
@@ -70,7 +70,7 @@ C4 r a h m k =
     let read = and-left (isRead (m .now .input)) _ (chosen-passes (λ x. isFor a (x .input)) (exchanges r) m) in
     let alike = ap (λ (l : Life). l .exchanges) (C1 r a h) in
     let is =
-        (rw (← alike) at (match-alone (entryOf a r) (few-spent r a h) (inputsFor a r))) m read k in
+    (rw (← alike) at (match-alone (entryOf a r) (few-spent r a h) (inputsFor a r))) m read k in
     let test = stands-tested (tagIn (m .now .input)) (packageIn (m .now .input)) (m .now .input .clock) (m .before) in
     (λ e. test .0 (sym is ∙ e), λ s. is ∙ test .1 s)
 

@@ -9,11 +9,8 @@ use borrow.Author.Tests.{ltb-true, lt-ltb, not-true}
 use Rattle.laws.specs.Lists.{any}
 use Rattle.laws.proofs.Tests.{and-left, and-right, and-both}
 use Rattle.table.specs.Run.{Exchange}
-use Rattle.runs.specs.Tags.{Moment, Stands, someLeft, stands, gave, endOf, presentedTag, tagGiven}
-
-or-holds : (b : Bool) → (b || true) ≡ true
-or-holds true = refl
-or-holds false = refl
+use Rattle.runs.specs.Tags.{Stands, someLeft, stands, gave, endOf, presentedTag, tagGiven}
+use Rattle.runs.proofs.Bools.{or-true}
 
 module _ (t : List ℕ) (p clock : ℕ) where
   -- an exchange is the one
@@ -49,7 +46,7 @@ module _ (t : List ℕ) (p clock : ℕ) where
   tested : (earlier : List Exchange) (x : Exchange) (later : List Exchange) → here x later ≡ true → stands t p clock (earlier ++ (x ∷ later)) ≡ true
   unfolding stands someLeft here
   tested [] x later h = rw h
-  tested (y ∷ earlier) x later h = rw (tested earlier x later h) (or-holds (here y (earlier ++ (x ∷ later))))
+  tested (y ∷ earlier) x later h = rw (tested earlier x later h) (or-true (here y (earlier ++ (x ∷ later))))
 
   -- the test holds exactly where the tag stands
   pub stands-tested : (before : List Exchange) → (stands t p clock before ≡ true) ↔ Stands t p clock before

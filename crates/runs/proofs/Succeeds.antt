@@ -29,18 +29,13 @@ use Rattle.table.proofs.OneRecord.{none-refusing}
 use Rattle.table.proofs.GrantedLaws.{Grants, grants, slot-there}
 use Rattle.runs.specs.Alone.{caseAt, answered}
 use Rattle.runs.specs.Tags.{hasTag, tagIn, packageIn, cameBack, succeeded, tagOfOutcome, timeOfOutcome, tagGiven, endOf, gave, presentedTag}
+use Rattle.runs.proofs.Bools.{and-turned}
 use Rattle.runs.proofs.Kept.{Kept}
-use Rattle.runs.proofs.Matches.{At, newPlace}
+use Rattle.runs.proofs.SomePlace.{At, newPlace}
 
 -- a publication of that package with that tag, live at that clock
 abbrev pub fits : ℕ → ℕ → List ℕ → Place → Bool
 fits clock p w o = isLive clock o && (eqb (o .slot .event) p && isTagText w (o .slot .tag))
-
-and-turned : (a b : Bool) → (a && b) ≡ (b && a)
-and-turned true true = refl
-and-turned true false = refl
-and-turned false true = refl
-and-turned false false = refl
 
 module _ (r : Record) (x : Input) (e : isSuccess (outcomeOf (caseAt true r x)) ≡ true) where
   abbrev c : Case

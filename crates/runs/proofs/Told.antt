@@ -23,10 +23,11 @@ use Rattle.publish.specs.Step.{successOf, successFor, ownAfter}
 use Rattle.table.specs.Add.{Entry, freshRecord}
 use Rattle.table.specs.Handle.{Input}
 use Rattle.table.specs.Run.{Exchange}
-use Rattle.runs.specs.Alone.{caseAt, answered, behind, aloneFrom}
+use Rattle.runs.specs.Alone.{caseAt, answered, beginning, aloneFrom}
 use Rattle.runs.specs.Tags.{cameBack, succeeded, tagOfOutcome, tagGiven, endOf, gave, presentedTag, someLeft, stands, isNotBack, tagIn}
+use Rattle.runs.proofs.Bools.{and-neither, or-turned, or-together}
 use Rattle.runs.proofs.Kept.{Kept, kept-on}
-use Rattle.runs.proofs.Matches.{isPresented, newPlace, and-holds, any-agree, any-after}
+use Rattle.runs.proofs.SomePlace.{isPresented, newPlace, any-agree, any-after}
 use Rattle.runs.proofs.Succeeds.{fits, gives, gave-new, presented-is, at}
 
 -- a publication that fits, and that no success of some presented
@@ -36,19 +37,6 @@ left clock p w before o = fits clock p w o && not (any (presentedTag (o .slot .t
 -- what some exchanges tell, beside what the record before them had
 unfoldable pub tells : ℕ → ℕ → List ℕ → List Exchange → Record → Bool
 tells clock p w before r = stands w p clock before || any (left clock p w before) (places r)
-
-left-out : (m q k : Bool) → ((m && not q) && not k) ≡ (m && not (k || q))
-left-out true true true = refl
-left-out true true false = refl
-left-out true false true = refl
-left-out true false false = refl
-left-out false q k = refl
-
-or-turned : (s n t : Bool) → (s || (n || t)) ≡ ((n || s) || t)
-or-turned true true t = refl
-or-turned true false t = refl
-or-turned false true t = refl
-or-turned false false t = refl
 
 module _ (clock p : ℕ) (w : List ℕ) (before : List Exchange) where
   abbrev f : Place → Bool
@@ -88,13 +76,14 @@ module _ (clock p : ℕ) (w : List ℕ) (before : List Exchange) where
     others = any-agree _ _ (places r) (places r) refl (λ k. one (placeAt (places r) k))
       where
         one : (o : Place) → (f o && not (isPresented s (tagIn x) o)) ≡ left clock p w (y ∷ before) o
-        one o = rw (presented-is r x e (o .slot .tag)) (left-out (fits clock p w o) (any (presentedTag (o .slot .tag)) before) (isPresented s (tagIn x) o))
+        one o = rw (presented-is r x e (o .slot .tag)) (and-neither (fits clock p w o) (any (presentedTag (o .slot .tag)) before) (isPresented s (tagIn x) o))
 
     -- so with the exchange in front they tell what the record has after it
     success-tells : Kept r → x .clock ≤ clock → tells clock p w before (ownAfter (caseAt true r x)) ≡ tells clock p w (y ∷ before) r
     unfolding tells stands someLeft ownAfter caseAt written isLive successOf successFor
     success-tells kept h =
         rw e (ap (λ (b : Bool). stands w p clock before || b) after ∙ or-turned (stands w p clock before) (f (newPlace s r)) _
+        ∙ or-together (f (newPlace s r)) (stands w p clock before) _
         ∙ ap₂ (λ (n t : Bool). (n || stands w p clock before) || t) first others)
       where
         ended : s .granted ≡ 0 → f (newPlace s r) ≡ false
@@ -132,7 +121,7 @@ step-tells clock p w r x before kept h = go (isSuccess (outcomeOf (caseAt true r
 -- after any inputs the record has live what their exchanges tell beside what it had before them
 pub told : (clock p : ℕ) (w : List ℕ) (r : Record) (bs : List ℕ) (xs : List Input) → Kept r → isNotBack clock (aloneFrom r bs xs .exchanges) ≡ true
     → tells clock p w [] (aloneFrom r bs xs .own) ≡ tells clock p w (aloneFrom r bs xs .exchanges) r
-unfolding aloneFrom behind caseAt answered
+unfolding aloneFrom beginning caseAt answered
 told clock p w r bs [] kept e = refl
 told clock p w r bs (x ∷ xs) kept e =
     told clock p w (ownAfter (caseAt true r x)) _ xs (kept-on (caseAt true r x) kept) (not-back-rest clock (answered x (caseAt true r x)) _ e)

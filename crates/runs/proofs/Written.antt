@@ -16,13 +16,7 @@ use Rattle.record.specs.Store.{partOf, partAt, withPart}
 use Rattle.record.specs.declared.Record.{Record}
 use Rattle.table.specs.Table.{Table, badSize, placeFor, isKnown, recordAt, withRecord}
 use Rattle.table.proofs.OneRecord.{part-lies}
-
--- a place is found as before where the element replaced passes the test as the new one does
-place-kept : {A : Type 0} (f : A → Bool) (xs : List A) (i : ℕ) (y d : A) → f y ≡ f (getD xs i d) → placeOf f (set xs i y) ≡ placeOf f xs
-unfolding placeOf
-place-kept f [] i y d e = refl
-place-kept f (x ∷ xs) zero y d e = rw e
-place-kept f (x ∷ xs) (suc i) y d e = rw (place-kept f xs i y d e)
+use Rattle.runs.proofs.Lists.{place-kept}
 
 module _ (t : Table) (i : ℕ) (r : Record) (bs : List ℕ) where
   abbrev t′ : Table

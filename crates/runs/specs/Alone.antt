@@ -45,15 +45,15 @@ pub record Life : Type 0 where
   pub part : List ℕ
 
 -- a life with one exchange more in front
-unfoldable pub behind : Exchange → Life → Life
-behind x l = record { exchanges = x ∷ l .exchanges; own = l .own; part = l .part }
+unfoldable pub beginning : Exchange → Life → Life
+beginning x l = record { exchanges = x ∷ l .exchanges; own = l .own; part = l .part }
 
 -- a life that goes on from a record and a part: each input finds the record that the one before left
 unfoldable pub aloneFrom : Record → List ℕ → List Input → Life
 aloneFrom r bs [] = record { exchanges = []; own = r; part = bs }
 aloneFrom r bs (x ∷ xs) =
     let c = caseAt true r x in
-    behind (answered x c) (aloneFrom (ownAfter c) (partAfterwards c bs) xs)
+    beginning (answered x c) (aloneFrom (ownAfter c) (partAfterwards c bs) xs)
 
 -- the life of an address by itself, from how it was added and its own inputs
 unfoldable pub alone : Entry → List Input → Life

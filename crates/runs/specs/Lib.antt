@@ -3,3 +3,5 @@ pub mod Added
 pub mod Reach
 pub mod Alone
 pub mod Tags
+pub mod Worked
+pub mod All

@@ -1,7 +1,8 @@
 -- Which inputs are for an address, and what was exchanged there: told by the inputs, by no table.
 use Prim.Native.Nat.{ℕ}
+use mathlib.Core.Path.{_≡_}
 use mathlib.Core.Bool.{Bool, _&&_, not}
-use mathlib.Core.List.{List, _++_}
+use mathlib.Core.List.{List, _∷_, _++_}
 use lib.ListN.{length}
 use Rattle.laws.specs.First.{Row}
 use Rattle.laws.specs.Lists.{any, those}
@@ -37,3 +38,10 @@ inputsFor a r = those (isFor a) (inputs r)
 -- the history of an address: each input for it with its answer, in their order
 unfoldable pub historyOf : List ℕ → Run → List Exchange
 historyOf a r = those (λ x. isFor a (x .input)) (exchanges r)
+
+-- a moment of a history: what was before, the exchange then, and what came later
+pub record Moment (history : List Exchange) : Type 0 where
+  pub before : List Exchange
+  pub now : Exchange
+  pub later : List Exchange
+  pub is : history ≡ before ++ (now ∷ later)

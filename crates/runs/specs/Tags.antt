@@ -2,7 +2,7 @@
 use Prim.Native.Nat.{ℕ, _+_, _<_}
 use mathlib.Core.Path.{_≡_}
 use mathlib.Core.Bool.{Bool, true, false, _&&_, _||_, not}
-use mathlib.Core.List.{List, [], _∷_, _++_, map}
+use mathlib.Core.List.{List, [], _∷_, map}
 use lib.Dec.{eqb, ltb, leb}
 use Rattle.laws.specs.Lists.{any, every, those, pairwise, same}
 use Rattle.request.specs.Head.{headOf}
@@ -14,6 +14,7 @@ use Rattle.publish.specs.declared.Outcome.{Outcome}
 use Rattle.publish.specs.declared.Outcome.the-variants.{Silent, Refused, Granted}
 use Rattle.table.specs.Handle.{Input}
 use Rattle.table.specs.Run.{Exchange}
+use Rattle.runs.specs.Reach.{Moment}
 
 -- an input presents a tag
 unfoldable pub hasTag : Input → Bool
@@ -62,13 +63,6 @@ gave t p x = succeeded x && (eqb (packageIn (x .input)) p && isTagText t (tagGiv
 -- a success that presented that tag
 unfoldable pub presentedTag : ℕ → Exchange → Bool
 presentedTag tag x = succeeded x && (hasTag (x .input) && isTagText (tagIn (x .input)) tag)
-
--- a moment of a history: what was before, the exchange then, and what came later
-pub record Moment (history : List Exchange) : Type 0 where
-  pub before : List Exchange
-  pub now : Exchange
-  pub later : List Exchange
-  pub is : history ≡ before ++ (now ∷ later)
 
 -- the tag t stands for the package p at a clock, by what was before: some earlier success gave t for p, the clock is below that
 -- success's clock plus its granted time, and no later success presented that tag

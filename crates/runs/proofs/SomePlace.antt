@@ -23,21 +23,8 @@ use Rattle.record.specs.declared.Success.{Success}
 use Rattle.record.proofs.Places.{placeAt}
 use Rattle.record.proofs.Stands.{freed-at}
 use Rattle.record.proofs.StoreLaws.{placesIn-length, freedPlaces-length}
+use Rattle.runs.proofs.Bools.{and-true, and-false, or-turned}
 use Rattle.runs.proofs.Kept.{Kept, small}
-
--- a test with one that holds, and with one that fails
-pub and-holds : (b : Bool) → (b && true) ≡ b
-and-holds true = refl
-and-holds false = refl
-
-pub and-none : (b : Bool) → (b && false) ≡ false
-and-none true = refl
-and-none false = refl
-
-or-turned : (a b c : Bool) → (a || (b || c)) ≡ (b || (a || c))
-or-turned true true c = refl
-or-turned true false c = refl
-or-turned false b c = refl
 
 -- with one place replaced: the new one passes, or one does with that place free
 any-set : (f : Place → Bool) (xs : List Place) (i : ℕ) (y : Place) → f freePlace ≡ false → i < length xs
@@ -107,8 +94,8 @@ module _ (x : Success) (r : Record) (token : List ℕ) (success : At x r token) 
           absurd (n m (success .kept .apart k (x .slot) t (success .taken m)
           (named-once token _ _ (small r (success .kept) k t) (small r (success .kept) (x .slot) (success .taken m)) e (success .named m))))
       go true m true e false t = rw (untaken o t)
-      go true m false e d t = sym (and-holds (f o))
-      go false m c e d t = sym (and-holds (f o))
+      go true m false e d t = sym (and-true (f o))
+      go false m c e d t = sym (and-true (f o))
 
   -- with one place freed, where what stood there is presented or free
   emptied : (i : ℕ) → i < 8 → rest (placeAt (places r) i) ≡ false → ((k : ℕ) → (k ≡ i → ⊥) → isMatch x ≡ true → k ≡ x .slot → ⊥)
@@ -127,7 +114,7 @@ module _ (x : Success) (r : Record) (token : List ℕ) (success : At x r token) 
   presented : isMatch x ≡ true → any f (set F (x .slot) freePlace) ≡ any rest (places r)
   unfolding isMatch
   presented m =
-      emptied (x .slot) (ltb-true _ 8 m) (rw (m, success .named m) (and-none (f (placeAt (places r) (x .slot))))) (λ k n m e. n e)
+      emptied (x .slot) (ltb-true _ 8 m) (rw (m, success .named m) (and-false (f (placeAt (places r) (x .slot))))) (λ k n m e. n e)
 
   -- where nothing is presented, a free place may be freed
   initial : isMatch x ≡ false → lowestFree F < 8 → any f (set F (lowestFree F) freePlace) ≡ any rest (places r)

@@ -19,36 +19,33 @@ use Rattle.publish.specs.Step.{ownAfter}
 use Rattle.table.specs.Add.{Entry, freshRecord}
 use Rattle.table.specs.Handle.{Input}
 use Rattle.table.specs.Run.{Exchange}
-use Rattle.runs.specs.Reach.{isRead}
-use Rattle.runs.specs.Alone.{caseAt, answered, behind, aloneFrom, alone}
-use Rattle.runs.specs.Tags.{hasTag, tagIn, packageIn, stands, someLeft, isNotBack, isTried, matched, Moment}
+use Rattle.runs.specs.Reach.{isRead, Moment}
+use Rattle.runs.specs.Alone.{caseAt, answered, beginning, aloneFrom, alone}
+use Rattle.runs.specs.Tags.{hasTag, tagIn, packageIn, stands, someLeft, isNotBack, isTried, matched}
+use Rattle.runs.proofs.Bools.{and-true, or-false}
 use Rattle.runs.proofs.Kept.{Kept, kept-fresh, kept-on}
-use Rattle.runs.proofs.Matches.{and-holds, any-agree}
+use Rattle.runs.proofs.SomePlace.{any-agree}
 use Rattle.runs.proofs.Succeeds.{fits}
 use Rattle.runs.proofs.Told.{tells, told}
 use Rattle.runs.proofs.Latest.{latest}
-use Rattle.runs.proofs.Matched.{holds, matched-at}
+use Rattle.runs.proofs.Tried.{holds, matched-at}
 use Rattle.runs.proofs.Moments.{each-front}
 
 -- any inputs keep what a record keeps
 kept-all : (r : Record) (bs : List ℕ) (xs : List Input) → Kept r → Kept (aloneFrom r bs xs .own)
-unfolding aloneFrom behind caseAt
+unfolding aloneFrom beginning caseAt
 kept-all r bs [] kept = kept
 kept-all r bs (x ∷ xs) kept = kept-all (ownAfter (caseAt true r x)) _ xs (kept-on (caseAt true r x) kept)
 
 -- what no exchange tells is what the record has
 none-tells : (clock p : ℕ) (w : List ℕ) (r : Record) → tells clock p w [] r ≡ holds clock p w r
 unfolding tells stands someLeft any
-none-tells clock p w r = any-agree _ _ (places r) (places r) refl (λ k. and-holds (fits clock p w (placeAt (places r) k)))
-
-or-none : (b : Bool) → (b || false) ≡ b
-or-none true = refl
-or-none false = refl
+none-tells clock p w r = any-agree _ _ (places r) (places r) refl (λ k. and-true (fits clock p w (placeAt (places r) k)))
 
 -- a fresh record has nothing, so the exchanges alone tell
 fresh-tells : (e : Entry) (clock p : ℕ) (w : List ℕ) (before : List Exchange) → tells clock p w before (freshRecord e) ≡ stands w p clock before
 unfolding tells freshRecord places placesIn any isLive
-fresh-tells e clock p w before = or-none (stands w p clock before)
+fresh-tells e clock p w before = or-false (stands w p clock before)
 
 -- what an input passes that is tried for a match
 record Tried (x : Input) (before : List Exchange) : Type 0 where

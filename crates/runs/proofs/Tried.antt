@@ -26,6 +26,7 @@ use Rattle.table.specs.Handle.{Input}
 use Rattle.runs.specs.Reach.{isRead}
 use Rattle.runs.specs.Alone.{caseAt, answered}
 use Rattle.runs.specs.Tags.{hasTag, tagIn, packageIn, cameBack, matched}
+use Rattle.runs.proofs.Lists.{place-found}
 use Rattle.runs.proofs.Outcome.{first-fails, outcomeFrom, rowsFrom, outcome-read}
 use Rattle.runs.proofs.Kept.{Kept}
 use Rattle.runs.proofs.Succeeds.{fits}
@@ -34,30 +35,12 @@ use Rattle.runs.proofs.Succeeds.{fits}
 abbrev pub holds : ℕ → ℕ → List ℕ → Record → Bool
 holds clock p w r = any (fits clock p w) (places r)
 
--- both numbers one more
-ltb-suc : (a b : ℕ) → ltb (suc a) (suc b) ≡ ltb a b
-ltb-suc a b = go (ltb a b) refl
-  where
-    go : (c : Bool) → ltb a b ≡ c → ltb (suc a) (suc b) ≡ c
-    go true e = lt-ltb (suc a) (suc b) (omega (arith, ltb-true a b e))
-    go false e = le-ltb (suc a) (suc b) (omega (arith, ltb-false a b e))
-
--- a place is found exactly where an element passes
-found-any : {A : Type 0} (f : A → Bool) (xs : List A) → ltb (placeOf f xs) (length xs) ≡ any f xs
-unfolding placeOf any
-found-any f [] = refl
-found-any f (x ∷ xs) = go (f x) (found-any f xs)
-  where
-    go : (b : Bool) → ltb (placeOf f xs) (length xs) ≡ any f xs → ltb (pick b 0 (suc (placeOf f xs))) (suc (length xs)) ≡ (b || any f xs)
-    go true deep = lt-ltb 0 (suc (length xs)) (omega arith)
-    go false deep = ltb-suc (placeOf f xs) (length xs) ∙ deep
-
--- so a live publication matches exactly where the record has one
+-- a slot matches exactly where the record has one
 pub matches : (clock p : ℕ) (w : List ℕ) (r : Record) → Kept r → ltb (matching clock p w r) 8 ≡ holds clock p w r
 unfolding matching places
 matches clock p w r kept =
     let size : length (places r) ≡ 8 = placesIn-length (r .map) (r .slots) ∙ kept .eight in
-    rw (← size) (found-any (fits clock p w) (places r))
+    rw (← size) (place-found (fits clock p w) (places r))
 
 -- no 412 is given behind 412
 behind-412 : (r : Record) (x : Input)
@@ -83,4 +66,3 @@ matched-at r x kept read tag event clock token =
     go : (b : Bool) → not (eqb (statusOf (pick (not b) (Refused 412 Nothing) rest)) 412) ≡ b
     go true = ap not (behind-412 r x)
     go false = refl
-
