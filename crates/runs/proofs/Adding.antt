@@ -10,9 +10,9 @@ use lib.Seq.{set-append-seam}
 use borrow.Author.Tests.{ltb-true, lt-ltb, le-ltb, eqb-true, eqb-false}
 use Rattle.laws.specs.Choose.{pick}
 use Rattle.laws.specs.First.{firstOf}
-use Rattle.laws.specs.Lists.{any, every, placeOf}
+use Rattle.laws.specs.Lists.{every, placeOf}
 use Rattle.laws.proofs.Tests.{and-left, and-right}
-use Rattle.record.specs.Address.{isAddress, sameAddress}
+use Rattle.record.specs.Address.{isAddress}
 use Rattle.record.specs.Address
 use Rattle.record.specs.Places.{emptyRecord}
 use Rattle.record.specs.Store.{partOf, partAt, withPart}

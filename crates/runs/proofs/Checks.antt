@@ -2,7 +2,7 @@
 -- three of them are left to be passed.
 use mathlib.Core.Path.{_≡_, refl, sym, _∙_, ap}
 use mathlib.Core.Bool.{Bool, true, false, not, _&&_, _||_}
-use mathlib.Core.List.{List, [], _∷_, _++_}
+use mathlib.Core.List.{List, _++_}
 use Prim.Native.Nat.{ℕ}
 use lib.Dec.{leb, ltb}
 use lib.ListN.{length, take, drop}
@@ -11,7 +11,6 @@ use Rattle.laws.specs.First.{Row}
 use Rattle.laws.specs.Lists.{any}
 use Rattle.request.specs.Head.{headOf}
 use Rattle.request.specs.Fields.{isBadMatch}
-use Rattle.record.specs.declared.Record.{Record}
 use Rattle.publish.specs.Refusals.{isBadSize, isBadEvent, refusals, sizeRows, requestRows, readingRows, addressRows}
 use Rattle.publish.specs.declared.Outcome.{Outcome}
 use Rattle.table.specs.Table.{Table, badSize, isKnown}

@@ -3,14 +3,12 @@ use mathlib.Core.Path.{_≡_, refl, sym, _∙_}
 use mathlib.Core.Bool.{Bool, true, false, not}
 use mathlib.Core.List.{List, [], _∷_, _++_}
 use Prim.Native.Nat.{ℕ, _≤_}
-use native.Mathlib.Omega.{arith}
 use lib.Dec.{eqb}
 use lib.ListN.{length, drop, List·getD-eq-default}
 use borrow.Author.Tests.{ltb-false, not-true}
 use Rattle.laws.specs.First.{firstOf}
 use Rattle.laws.specs.Lists.{any, every}
 use Rattle.request.specs.Head.{headOf}
-use Rattle.record.specs.Address.{sameAddress}
 use Rattle.record.specs.After.{givenTag}
 use Rattle.record.specs.Places.{emptyRecord}
 use Rattle.record.specs.declared.Record.{Record}
@@ -21,7 +19,7 @@ use Rattle.publish.specs.declared.Outcome.the-variants.{Granted}
 use Rattle.table.specs.Table.{Table, placeFor, isKnown, recordAt}
 use Rattle.table.specs.Add.{Entry}
 use Rattle.table.specs.Handle.{Input}
-use Rattle.table.specs.Run.{Exchange, inFrontOf}
+use Rattle.table.specs.Run.{inFrontOf}
 use Rattle.runs.specs.Added.{isOf, isAmong}
 use Rattle.runs.specs.Reach.{isRead, isFor, Moment}
 use Rattle.runs.specs.Alone.{caseAt, answered, elsewhere}

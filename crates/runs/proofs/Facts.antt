@@ -32,7 +32,7 @@ use Rattle.runs.proofs.Tried.{matches}
 use Rattle.runs.proofs.History.{kept-alone, clock-alone, live-alone}
 use Rattle.runs.proofs.Standing.{stands-tested}
 use Rattle.runs.proofs.Checks.{checks}
-use Rattle.runs.proofs.Promises.{C1}
+use Rattle.runs.proofs.Promises.{C1, history-alone}
 
 -- the table of a run has its sizes, whole records and sound ones. A run that stops earlier is a run, so this is every table of it
 pub record Good (r : Run) : Type 0 where
@@ -52,11 +52,7 @@ pub inputs-kept : (r : Run) → map (λ x. x .input) (exchanges r) ≡ inputs r
 inputs-kept r = rw (exchanges-in r) (inputs-back (inputs r) _)
 
 module _ (r : Run) (a : List ℕ) (h : isAdded a r ≡ true) where
-  -- the history of the address and its record are those that it has alone
-  history-alone : historyOf a r ≡ alone (entryOf a r) (inputsFor a r) .exchanges
-  unfolding lifeOf
-  history-alone = ap (λ (l : Life). l .exchanges) (C1 r a h)
-
+  -- the record of the address is the one that it has alone
   own-alone : lifeOf a r .own ≡ alone (entryOf a r) (inputsFor a r) .own
   own-alone = ap (λ (l : Life). l .own) (C1 r a h)
 
@@ -71,9 +67,9 @@ module _ (r : Run) (a : List ℕ) (h : isAdded a r ≡ true) where
 
       is : ltb (matching clock p t (lifeOf a r .own)) 8 ≡ stands t p clock (historyOf a r)
       is =
-          rw (own-alone, history-alone)
+          rw (own-alone, history-alone r a h)
           (matches clock p t _ (kept-alone (entryOf a r) (few-spent r a h) (inputsFor a r))
-          ∙ live-alone (entryOf a r) (few-spent r a h) clock p t (inputsFor a r) (rw history-alone at k))
+          ∙ live-alone (entryOf a r) (few-spent r a h) clock p t (inputsFor a r) (rw (history-alone r a h) at k))
 
   known-at-end : isKnown a (tableAtEnd r) ≡ true
   unfolding tableAtEnd
@@ -81,7 +77,7 @@ module _ (r : Run) (a : List ℕ) (h : isAdded a r ≡ true) where
 
   -- the clock of the record is that of the latest success
   clock-told : (clock : ℕ) → isNotBack clock (historyOf a r) ≡ leb (lifeOf a r .own .clock) clock
-  clock-told clock = rw (own-alone, history-alone) (sym (clock-alone (entryOf a r) (few-spent r a h) clock (inputsFor a r)))
+  clock-told clock = rw (own-alone, history-alone r a h) (sym (clock-alone (entryOf a r) (few-spent r a h) clock (inputsFor a r)))
 
   -- an input for the address is tried for a match, by the history, exactly if it presents a tag and none of the paper's refusals before
   -- 412, which are the first twelve, applies

@@ -6,13 +6,12 @@ use Prim.Native.Nat.{ℕ, _<_, _≤_}
 use native.Mathlib.Omega.{arith}
 use lib.ListN.{length}
 use borrow.Author.Tests.{ltb-true}
-use Rattle.laws.specs.Lists.{every}
 use Rattle.laws.proofs.Tests.{every-at}
 use Rattle.record.specs.Places.{emptyRecord}
 use Rattle.record.specs.declared.Record.{Record}
 use Rattle.table.specs.Table.{Table, isKnown, recordAt}
 use Rattle.table.specs.HeldRecord.{isHeld}
-use Rattle.table.specs.Add.{Entry, freshRecord}
+use Rattle.table.specs.Add.{freshRecord}
 use Rattle.table.specs.Handle.{Input}
 use Rattle.table.specs.Run.{Given, inFrontOf, begun, ran}
 use Rattle.table.proofs.Whole.{held-found}

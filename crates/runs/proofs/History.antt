@@ -1,6 +1,6 @@
 -- What the history of an address alone tells: at its end, which publications are live; at every moment, whether a presented tag matches.
-use mathlib.Core.Path.{_≡_, refl, sym, _∙_, ap}
-use mathlib.Core.Bool.{Bool, true, false, not, _&&_, _||_}
+use mathlib.Core.Path.{_≡_, refl, sym, _∙_}
+use mathlib.Core.Bool.{true, false, not}
 use mathlib.Core.List.{List, [], _∷_}
 use Prim.Native.Nat.{ℕ, _≤_}
 use native.Mathlib.Omega.{arith}
@@ -11,7 +11,7 @@ use Rattle.laws.specs.Lists.{any}
 use Rattle.laws.proofs.Tests.{and-left, and-right}
 use Rattle.request.specs.Head.{headOf}
 use Rattle.request.specs.Fields.{isBadMatch}
-use Rattle.record.specs.Places.{Place, places, placesIn, isLive}
+use Rattle.record.specs.Places.{places, placesIn, isLive}
 use Rattle.record.specs.declared.Record.{Record}
 use Rattle.record.proofs.Places.{placeAt}
 use Rattle.publish.specs.Refusals.{isBadEvent}

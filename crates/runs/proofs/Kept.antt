@@ -2,7 +2,7 @@
 use mathlib.Core.Path.{_≡_, refl, sym, _∙_, ap, subst}
 use mathlib.Core.Bool.{Bool, true, false, not, true≢false}
 use mathlib.Core.List.{List, [], _∷_}
-use mathlib.Core.Logic.{_⊎_, inl, inr, ⊎-elim}
+use mathlib.Core.Logic.{inl, inr, ⊎-elim}
 use Prim.Native.Nat.{ℕ, zero, suc, _+_, _<_, _≤_}
 use native.Mathlib.Omega.{arith}
 use lib.ListN.{length}
@@ -10,10 +10,9 @@ use borrow.Author.Tests.{not-true}
 use Rattle.laws.specs.Choose.{pick}
 use Rattle.laws.specs.Lists.{every}
 use Rattle.laws.proofs.Tests.{and-left, every-head, every-tail}
-use Rattle.tag.specs.Tag.{tagOf}
 use Rattle.tag.specs.Given.{SomeGives}
 use Rattle.tag.proofs.Tag.{tag-below, tags-differ}
-use Rattle.record.specs.Places.{Place, places, placesIn, isLive, slotsOf}
+use Rattle.record.specs.Places.{Place, places, placesIn, isLive}
 use Rattle.record.specs.After.{successNumber, givenTag, writtenSlot, written, placesAfter, recordAfter}
 use Rattle.record.specs.declared.Record.{Record}
 use Rattle.record.specs.declared.Success.{Success}

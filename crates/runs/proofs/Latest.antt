@@ -6,7 +6,6 @@ use Prim.Native.Nat.{ℕ, _≤_}
 use native.Mathlib.Omega.{arith}
 use lib.Dec.{leb}
 use borrow.Author.Tests.{leb-true, le-leb}
-use Rattle.laws.specs.Choose.{pick}
 use Rattle.laws.specs.Lists.{every, those}
 use Rattle.record.specs.After.{recordAfter}
 use Rattle.record.specs.declared.Record.{Record}

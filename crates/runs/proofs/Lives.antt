@@ -3,17 +3,15 @@ use mathlib.Core.Path.{_≡_, refl, _∙_, ap₂}
 use mathlib.Core.Bool.{Bool, true, false}
 use mathlib.Core.List.{List, [], _∷_}
 use Prim.Native.Nat.{ℕ}
-use Rattle.laws.specs.Choose.{pick}
 use Rattle.laws.specs.Lists.{those}
-use Rattle.publish.specs.Step.{ownAfter, partAfterwards}
 use Rattle.table.specs.Table.{Table, isKnown}
 use Rattle.table.specs.Handle.{Input}
 use Rattle.table.specs.Run.{Given, inFrontOf}
 use Rattle.runs.specs.Reach.{isFor}
-use Rattle.runs.specs.Alone.{Life, caseAt, answered, beginning, aloneFrom}
+use Rattle.runs.specs.Alone.{Life, answered, beginning, aloneFrom}
 use Rattle.runs.proofs.Fine.{Fine}
-use Rattle.runs.proofs.Sent.{ownIn, partIn, caseIn, tableIn, sendIn, fine-in}
-use Rattle.runs.proofs.Own.{Lived, Left, lived, left, known-same}
+use Rattle.runs.proofs.Sent.{ownIn, partIn, tableIn, sendIn, fine-in}
+use Rattle.runs.proofs.Own.{lived, left, known-same}
 
 -- what some inputs show of an address
 abbrev pub lifeIn : List ℕ → Given → Life

@@ -2,16 +2,15 @@
 -- after every front of the inputs, of what comes back next, holds at every moment.
 use mathlib.Core.Path.{_≡_, refl, ap, subst}
 use mathlib.Core.Bool.{Bool, true, false, true≢false}
-use mathlib.Core.List.{List, [], _∷_, _++_}
+use mathlib.Core.List.{List, [], _∷_, _++_, map}
 use Prim.Native.Nat.{ℕ}
 use Rattle.laws.specs.Choose.{pick}
 use Rattle.laws.specs.Lists.{those, empty}
 use Rattle.record.specs.declared.Record.{Record}
-use Rattle.publish.specs.Step.{ownAfter, partAfterwards}
 use Rattle.table.specs.Handle.{Input}
 use Rattle.table.specs.Run.{Exchange}
 use Rattle.runs.specs.Reach.{Moment}
-use Rattle.runs.specs.Alone.{Life, caseAt, answered, beginning, aloneFrom}
+use Rattle.runs.specs.Alone.{caseAt, answered, beginning, aloneFrom}
 
 -- the first of some exchanges
 abbrev firstOr : Exchange → List Exchange → Exchange
@@ -62,3 +61,18 @@ each-front Q r bs holds [] m = absurd (no-moment m)
 each-front Q r bs holds (x ∷ xs) m =
     each-moment Q (answered x (caseAt true r x)) (aloneFrom _ _ xs .exchanges) (holds [] x)
     (each-front (λ before now. Q (answered x (caseAt true r x) ∷ before) now) _ _ (λ front y. holds (x ∷ front) y) xs) m
+
+-- each of its inputs comes back with its answer
+inputs-back : (r : Record) (bs : List ℕ) (xs : List Input) → map (λ x. x .input) (aloneFrom r bs xs .exchanges) ≡ xs
+unfolding aloneFrom beginning answered
+inputs-back r bs [] = refl
+inputs-back r bs (x ∷ xs) = ap (λ l. x ∷ l) (inputs-back _ _ xs)
+
+-- so what comes back at a moment follows from the inputs before it
+pub each-next : (r : Record) (bs : List ℕ) (xs : List Input) (m : Moment (aloneFrom r bs xs .exchanges))
+    → m .now ≡ answered (m .now .input) (caseAt true (aloneFrom r bs (map (λ x. x .input) (m .before)) .own) (m .now .input))
+unfolding answered
+each-next r bs xs m =
+    each-front
+    (λ before now. now ≡ answered (now .input) (caseAt true (aloneFrom r bs (map (λ x. x .input) before) .own) (now .input)))
+    r bs (λ front x. rw (inputs-back r bs front)) xs m

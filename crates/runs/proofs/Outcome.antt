@@ -2,7 +2,6 @@
 use mathlib.Core.Path.{_≡_, refl, sym, _∙_, ap}
 use mathlib.Core.Bool.{Bool, true, false, not, _||_, true≢false}
 use mathlib.Core.List.{List, [], _∷_, _++_}
-use lib.ListN.{length}
 use borrow.Author.Tests.{not-true, not-false}
 use Rattle.laws.specs.Choose.{pick}
 use Rattle.laws.specs.First.{Row, firstOf}
@@ -11,7 +10,7 @@ use Rattle.laws.proofs.Rows.{none-applied, none-applies}
 use Rattle.request.specs.Head.{headOf}
 use Rattle.record.specs.After.{givenTag}
 use Rattle.record.specs.declared.Record.{Record}
-use Rattle.publish.specs.Refusals.{isBadSize, refusals, sizeRows, readingRows, requestRows, addressRows, contentRows, roomRows, outcomeOf, granted}
+use Rattle.publish.specs.Refusals.{isBadSize, refusals, sizeRows, requestRows, addressRows, contentRows, roomRows, outcomeOf, granted}
 use Rattle.publish.specs.Step.{answerOf}
 use Rattle.publish.specs.declared.Outcome.{Outcome}
 use Rattle.publish.specs.declared.Outcome.the-variants.{Granted}

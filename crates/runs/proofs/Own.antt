@@ -6,8 +6,8 @@ use Prim.Native.Nat.{ℕ, _<_}
 use lib.ListN.{length, getD}
 use borrow.Author.Tests.{ltb-true}
 use Rattle.laws.specs.Choose.{pick}
-use Rattle.laws.specs.Lists.{any, every, same}
-use Rattle.laws.proofs.Tests.{and-left, and-right, and-both, same-equal, same-self, place-holds, every-at}
+use Rattle.laws.specs.Lists.{any, same}
+use Rattle.laws.proofs.Tests.{and-right, and-both, same-equal, same-self, place-holds, every-at}
 use Rattle.request.specs.Fields.{body}
 use Rattle.record.specs.Address.{addressOf, sameAddress}
 use Rattle.record.specs.Address
@@ -19,17 +19,15 @@ use Rattle.record.proofs.AfterLaws.{Keeps, keeps}
 use Rattle.publish.specs.Outcomes.{isSuccess}
 use Rattle.publish.specs.Refusals.{Case, outcomeOf, refusals, sizeRows, requestRows, readingRows, isBadSize}
 use Rattle.publish.specs.Step.{successOf, ownAfter, partAfterwards}
-use Rattle.table.specs.Table.{Table, placeFor, isKnown, recordAt, withRecord}
-use Rattle.table.specs.Handle.{Input, done, tableAfter}
-use Rattle.table.specs.Run.{Sending}
+use Rattle.table.specs.Table.{Table, placeFor, isKnown, recordAt}
+use Rattle.table.specs.Handle.{Input, tableAfter}
 use Rattle.table.proofs.OneRecord.{none-refusing}
 use Rattle.table.proofs.GrantedLaws.{grants}
 use Rattle.table.proofs.Whole.{held-whole}
-use Rattle.runs.specs.Run.{hasRoom}
 use Rattle.runs.specs.Reach.{rowsBefore, isRead, isFor}
 use Rattle.runs.specs.Alone.{caseAt, answered}
 use Rattle.runs.proofs.Fine.{Fine}
-use Rattle.runs.proofs.Sent.{uri, ownIn, partIn, caseIn, tableIn, exchangeOf, exchange-in, table-in}
+use Rattle.runs.proofs.Sent.{uri, ownIn, partIn, caseIn, tableIn}
 use Rattle.runs.proofs.Written.{place-stays, known-stays, record-other, record-there, part-there, part-other}
 
 -- a record that keeps its address is in use for the addresses that it was in use for

@@ -8,13 +8,13 @@ use native.Mathlib.Decide.{ℕ-discrete}
 use native.Mathlib.Nat.{not-suc-le-zero, le-of-suc-le-suc}
 use native.Mathlib.Omega.{arith}
 use lib.Dec.{eqb}
-use lib.ListN.{length, getD, set, length-set}
+use lib.ListN.{length, set, length-set}
 use lib.Seq.{getD-set-same, getD-set-other}
 use borrow.Author.Tests.{ltb-true, eqb-true, eqb-false, not-true}
 use Rattle.laws.specs.Choose.{pick}
 use Rattle.laws.specs.Lists.{any}
 use Rattle.laws.proofs.Tests.{same-equal, place-holds}
-use Rattle.tag.specs.Written.{tagText, isTagText}
+use Rattle.tag.specs.Written.{isTagText}
 use Rattle.tag.proofs.Written.{tag-text-once}
 use Rattle.record.specs.Places.{Place, freePlace, places, lowestFree}
 use Rattle.record.specs.After.{freed, freedPlaces, isMatch, writtenSlot, written, endedPlaces, writtenPlaces, placesAfter}

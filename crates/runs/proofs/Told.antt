@@ -6,21 +6,19 @@ use mathlib.Core.List.{List, [], _∷_}
 use Prim.Native.Nat.{ℕ, _+_, _≤_}
 use native.Mathlib.Omega.{arith}
 use lib.Dec.{ltb, leb}
-use lib.ListN.{length}
 use borrow.Author.Tests.{leb-true, le-ltb}
 use Rattle.laws.specs.Choose.{pick}
 use Rattle.laws.specs.Lists.{any, every, those}
 use Rattle.laws.proofs.Tests.{and-left, and-right}
-use Rattle.record.specs.Places.{Place, freePlace, places, placesIn, isLive}
-use Rattle.record.specs.After.{freed, givenTag, written, recordAfter}
+use Rattle.record.specs.Places.{Place, freePlace, places, isLive}
+use Rattle.record.specs.After.{freed, written, recordAfter}
 use Rattle.record.specs.declared.Record.{Record}
 use Rattle.record.specs.declared.Success.{Success}
 use Rattle.record.proofs.Places.{placeAt}
 use Rattle.record.proofs.AfterLaws.{places-after}
 use Rattle.publish.specs.Outcomes.{isSuccess}
-use Rattle.publish.specs.Refusals.{Case, outcomeOf}
+use Rattle.publish.specs.Refusals.{outcomeOf}
 use Rattle.publish.specs.Step.{successOf, successFor, ownAfter}
-use Rattle.table.specs.Add.{Entry, freshRecord}
 use Rattle.table.specs.Handle.{Input}
 use Rattle.table.specs.Run.{Exchange}
 use Rattle.runs.specs.Alone.{caseAt, answered, beginning, aloneFrom}

@@ -1,16 +1,15 @@
 -- An input that presents a tag and passes the checks before 412, at a record: it is matched exactly where the record has a live
 -- publication of its package with that tag.
 use mathlib.Core.Path.{_≡_, refl, _∙_, ap}
-use mathlib.Core.Bool.{Bool, true, false, not, _||_}
-use mathlib.Core.List.{List, [], _∷_, _++_}
-use Prim.Native.Nat.{ℕ, suc, _≤_}
-use native.Mathlib.Omega.{arith}
+use mathlib.Core.Bool.{Bool, true, false, not}
+use mathlib.Core.List.{List, _++_}
+use Prim.Native.Nat.{ℕ, _≤_}
 use lib.Dec.{ltb, eqb}
 use lib.ListN.{length}
-use borrow.Author.Tests.{lt-ltb, le-ltb, ltb-true, ltb-false}
+use borrow.Author.Tests.{le-ltb}
 use Rattle.laws.specs.Choose.{pick}
 use Rattle.laws.specs.First.{firstOf}
-use Rattle.laws.specs.Lists.{any, every, placeOf}
+use Rattle.laws.specs.Lists.{any, every}
 use Rattle.request.specs.Head.{headOf}
 use Rattle.request.specs.Fields.{isBadMatch}
 use Rattle.record.specs.Places.{places, matching}

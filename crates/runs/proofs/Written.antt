@@ -1,14 +1,14 @@
 -- A table with another record at one place and another part for it: what stands there, and that nothing else differs.
 use mathlib.Core.Path.{_≡_, refl, sym, _∙_, ap}
 use mathlib.Core.Bool.{Bool, true, false}
-use mathlib.Core.List.{List, [], _∷_}
-use Prim.Native.Nat.{ℕ, zero, suc, _+_, _*_, _<_, _≤_}
+use mathlib.Core.List.{List}
+use Prim.Native.Nat.{ℕ, _+_, _*_, _<_, _≤_}
 use native.Mathlib.Omega.{arith}
 use lib.Dec.{ltb}
-use lib.ListN.{length, getD, set, length-set}
+use lib.ListN.{length, length-set}
 use lib.Seq.{getD-set-same, getD-set-other}
 use borrow.Author.Tests.{ltb-true, ltb-false}
-use Rattle.laws.specs.Lists.{placeOf, part, putAt}
+use Rattle.laws.specs.Lists.{part, putAt}
 use Rattle.laws.proofs.Parts.{put-part, put-part-before, put-part-behind}
 use Rattle.record.specs.Address.{isFor}
 use Rattle.record.specs.Places.{emptyRecord}

@@ -59,6 +59,10 @@ aloneFrom r bs (x ∷ xs) =
 unfoldable pub alone : Entry → List Input → Life
 alone e xs = aloneFrom (freshRecord e) (replicate 4096 0) xs
 
+-- what an address by itself answers next, after some inputs
+unfoldable pub next : Entry → List Input → Input → Exchange
+next e earlier x = answered x (caseAt true (alone e earlier .own) x)
+
 -- what a run shows of an address: its history, and its record and its part in the table at the end
 unfoldable pub lifeOf : List ℕ → Run → Life
 lifeOf a r =

@@ -1,5 +1,4 @@
 -- Any run: what a caller lends, adds and sends. Only sizes are asked of it, and nothing of what is lent.
-use Prim.Native.Nat.{ℕ}
 use mathlib.Core.Path.{_≡_}
 use mathlib.Core.Bool.{Bool, true, false, _&&_}
 use mathlib.Core.List.{List, [], _∷_, map}
