@@ -5,8 +5,8 @@ use mathlib.Core.Bool.{Bool, true, false, not, _&&_, _||_}
 use mathlib.Core.List.{List, _++_}
 use Prim.Native.Nat.{ℕ}
 use lib.Dec.{leb, ltb}
-use lib.ListN.{length, take, drop}
-use borrow.Author.Tests.{leb-true, le-ltb, lt-leb, le-leb, ltb-true, ltb-false, not-true}
+use lib.ListN.{take, drop}
+use borrow.Author.Tests.{lt-leb, le-leb, ltb-true, ltb-false, not-true}
 use Rattle.laws.specs.First.{Row}
 use Rattle.laws.specs.Lists.{any}
 use Rattle.request.specs.Head.{headOf}
@@ -21,7 +21,7 @@ use Rattle.runs.specs.Reach.{rowsBefore, isRead}
 use Rattle.runs.proofs.Bools.{none-of-three}
 use Rattle.runs.proofs.Lists.{any-append}
 use Rattle.runs.proofs.Fine.{Fine}
-use Rattle.runs.proofs.Sent.{uri, ownIn}
+use Rattle.runs.proofs.Sent.{uri, ownIn, roomy}
 
 -- a number is not above another where that is not below it
 not-above : (a b : ℕ) → leb a b ≡ not (ltb b a)
@@ -40,9 +40,9 @@ pub checks : (t : Table) (x : Sending) → Fine t → hasRoom x ≡ true → isR
     → (not (isBadEvent (x .input .request) (headOf (x .input .request)))
     && (leb (ownIn (uri (x .input)) t .clock) (x .input .clock) && not (isBadMatch (x .input .request) (headOf (x .input .request)))))
     ≡ not (someApplies (take 12 (refusals (caseOf t (x .buffer) (x .input)))))
-unfolding isRead rowsBefore isBadSize any caseOf refusals sizeRows requestRows readingRows addressRows hasRoom badSize
+unfolding isRead rowsBefore isBadSize any caseOf refusals sizeRows requestRows readingRows addressRows badSize
 checks t x f room read known =
-    rw (not-above own (x .input .clock), le-ltb (length (x .buffer)) 4608 (leb-true _ _ room), f .size, f .sound, known)
+    rw (not-above own (x .input .clock), roomy x room, f .size, f .sound, known)
     (none-of-three (isBadEvent s (headOf s)) (ltb (x .input .clock) own) (isBadMatch s (headOf s)) ∙ ap not (sym decide))
   where
     s : List ℕ

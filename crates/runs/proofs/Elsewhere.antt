@@ -1,5 +1,5 @@
 -- Inputs to a table of a run that are for no address of it: what comes back follows from the input alone. And what never comes back.
-use mathlib.Core.Path.{_≡_, refl, sym, _∙_}
+use mathlib.Core.Path.{_≡_, refl, sym, _∙_, ap₂}
 use mathlib.Core.Bool.{Bool, true, false, not}
 use mathlib.Core.List.{List, [], _∷_, _++_}
 use Prim.Native.Nat.{ℕ, _≤_}
@@ -55,7 +55,7 @@ module _ (es : List Entry) where
       go : (b : Bool) → isRead x ≡ b → answered x (caseIn t x) ≡ elsewhere x
       go true e =
           let unknown : isKnown (uri x) t ≡ false = known (uri x) ∙ sym (for-among es x e) ∙ not-true _ none in
-          rw (unknown, none-own (uri x) t unknown)
+          ap₂ (λ (k : Bool) (o : Record). answered x (caseAt k o x)) unknown (none-own (uri x) t unknown)
       go false e = answered-alike _ _ _ _ x (outcome-unread _ _ x e ∙ sym (outcome-unread _ _ x e))
 
   -- and so at every moment

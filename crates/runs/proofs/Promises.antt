@@ -89,7 +89,8 @@ C4 r a h m k =
 pub C5 : (r : Run) (a : List ℕ) → isAdded a r ≡ true → allDiffer (tagsGiven (historyOf a r)) ≡ true
 unfolding alone freshRecord
 C5 r a h =
-    rw (history-alone r a h) (follows (freshRecord (entryOf a r)) (replicate 4096 0) (inputsFor a r) (few-spent r a h) .differ)
+    ap (λ xs. allDiffer (tagsGiven xs)) (history-alone r a h)
+    ∙ follows (freshRecord (entryOf a r)) (replicate 4096 0) (inputsFor a r) (few-spent r a h) .differ
 
 -- What the lent records, the store and the answer buffers held has no part in any answer, nor in the table at the end.
 pub whatever-lent : (r r′ : Run) → length (r .lent .records) ≡ length (r′ .lent .records) → r .entries ≡ r′ .entries → inputs r ≡ inputs r′

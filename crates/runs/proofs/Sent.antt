@@ -1,9 +1,10 @@
 -- Sending to a table of a run: what comes back and the table after it follow from the inputs and that table, whatever the answer
 -- buffers held.
 use mathlib.Core.Path.{_≡_, refl, _∙_, ap, ap₂, subst}
-use mathlib.Core.Bool.{true}
+use mathlib.Core.Bool.{true, false}
 use mathlib.Core.List.{List, [], _∷_, map}
 use Prim.Native.Nat.{ℕ}
+use lib.Dec.{ltb}
 use lib.ListN.{length, replicate}
 use lib.Seq.{take-at}
 use borrow.Author.Tests.{le-ltb, leb-true}
@@ -48,11 +49,16 @@ tableIn t x = pick (isSuccess (outcomeOf (caseIn t x))) (tableAfter t (caseIn t 
 abbrev pub exchangeOf : Table → Sending → Exchange
 exchangeOf t x = record { input = x .input; answer = answerIn (done t (x .buffer) (x .input)) }
 
+-- a buffer that has room is not below 4,608 bytes
+pub roomy : (x : Sending) → hasRoom x ≡ true → ltb (length (x .buffer)) 4608 ≡ false
+unfolding hasRoom
+roomy x room = le-ltb (length (x .buffer)) 4608 (leb-true 4608 (length (x .buffer)) room)
+
 module _ (t : Table) (x : Sending) (f : Fine t) (room : hasRoom x ≡ true) where
   -- sizes and soundness have no part in what comes back
   outcome-in : outcomeOf (caseOf t (x .buffer) (x .input)) ≡ outcomeOf (caseIn t (x .input))
-  unfolding outcomeOf caseOf caseAt refusals sizeRows isBadSize firstOf hasRoom badSize
-  outcome-in = rw (le-ltb (length (x .buffer)) 4608 (leb-true _ _ room), f .size, f .sound)
+  unfolding outcomeOf caseOf caseAt refusals sizeRows isBadSize firstOf badSize
+  outcome-in = rw (roomy x room, f .size, f .sound)
 
   -- the message that is due
   message-in : answerOf (caseOf t (x .buffer) (x .input)) (x .input .number) ≡ answerOf (caseIn t (x .input)) (x .input .number)

@@ -1,6 +1,6 @@
 -- A success at the record of an address, told by its input and its answer: what it gave is what it wrote, and what it presented is what
 -- it matched.
-use mathlib.Core.Path.{_≡_, refl, sym, _∙_}
+use mathlib.Core.Path.{_≡_, refl, sym, _∙_, ap₂}
 use mathlib.Core.Bool.{Bool, true, false, _&&_, true≢false}
 use mathlib.Core.List.{List}
 use Prim.Native.Nat.{ℕ}
@@ -70,7 +70,7 @@ module _ (r : Record) (x : Input) (e : isSuccess (outcomeOf (caseAt true r x)) �
   -- what it presented is what it matched
   pub presented-is : (tag : ℕ) → presentedTag tag y ≡ (isMatch (successOf c) && isTagText (tagIn x) tag)
   unfolding presentedTag succeeded cameBack answered
-  presented-is tag = rw (e, match-is)
+  presented-is tag = ap₂ (λ (b m : Bool). b && (m && isTagText (tagIn x) tag)) e (sym match-is)
 
   -- the slot that it matched has that publication
   found : Kept r → (b : Bool) → hasMatch (headOf (x .request)) ≡ b
