@@ -75,10 +75,12 @@ module _ (n : ℕ) (es : List Entry) (ready : Ready n es) where
     place : ℕ
     place = placeOf (isOf a) es
 
+    -- where the address stands
     there : placeFor a (tableWith n es) ≡ place
     unfolding place
     there = place-with a ∙ rw among
 
+    -- which is one of the entries
     below : place < length es
     unfolding place isAmong
     below = place-below (isOf a) es among

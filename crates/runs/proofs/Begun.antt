@@ -46,6 +46,7 @@ comes n there (e ∷ es) ready k =
     }
 
 module _ (r : Run) where
+  -- so many records
   abbrev n : ℕ
   n = length (r .lent .records)
 
@@ -58,6 +59,7 @@ module _ (r : Run) where
       none : n ≡ n - 0
       none = omega arith
 
+  -- what comes of all its entries
   all : Comes n [] (r .entries)
   unfolding every
   all =
@@ -74,6 +76,7 @@ module _ (r : Run) where
   unfolding addedIn accepted
   added-accepted = all .accepts ∙ ap (acceptedFrom (r .entries)) (sym opened-with)
 
+  -- and these fit in the records
   ready : Ready n (addedIn r)
   unfolding addedIn
   ready = all .ready

@@ -40,6 +40,7 @@ pub record Good (r : Run) : Type 0 where
   pub held : every isHeld (tableAtEnd r .records) ≡ true
   pub sound : allSound (tableAtEnd r .records) ≡ true
 
+-- and so it is in every run
 pub always-good : (r : Run) → Good r
 always-good r = let f = fine-at-end r in record { good-size = f .size; held = f .held; sound = f .sound }
 
@@ -71,6 +72,7 @@ module _ (r : Run) (a : List ℕ) (h : isAdded a r ≡ true) where
           (matches clock p t _ (kept-alone (entryOf a r) (few-spent r a h) (inputsFor a r))
           ∙ live-alone (entryOf a r) (few-spent r a h) clock p t (inputsFor a r) (rw (history-alone r a h) at k))
 
+  -- the address is in the table at the end
   known-at-end : isKnown a (tableAtEnd r) ≡ true
   unfolding tableAtEnd
   known-at-end = ap (λ (g : Given). isKnown a (g .table)) (given-in r) ∙ known-sent a (inputs r) _ (fine-begun r) ∙ known-begun r a ∙ h

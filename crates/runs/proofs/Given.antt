@@ -28,6 +28,7 @@ pub given-in : (r : Run) → given r ≡ sendIn (inputs r) (begun (r .lent) (r .
 unfolding given ran inputs
 given-in r = sent-in (r .sendings) (begun (r .lent) (r .entries)) (fine-begun r) (r .buffers)
 
+-- and so are its exchanges
 pub exchanges-in : (r : Run) → exchanges r ≡ sendIn (inputs r) (begun (r .lent) (r .entries)) .exchanges
 unfolding exchanges
 exchanges-in r = ap (λ (g : Given). g .exchanges) (given-in r)

@@ -54,6 +54,7 @@ record Tried (x : Input) (before : List Exchange) : Type 0 where
   pub not-back : isNotBack (x .clock) before ≡ true
   pub token : isBadMatch (x .request) (headOf (x .request)) ≡ false
 
+-- it does where the test holds
 tried : (x : Input) (before : List Exchange) → isTried x before ≡ true → Tried x before
 unfolding isTried
 tried x before e =

@@ -64,9 +64,11 @@ pub record Left (a : List ℕ) (t t′ : Table) : Type 0 where
   pub part : partIn a t′ ≡ partIn a t
 
 module _ (t : Table) (x : Input) (f : Fine t) where
+  -- what the input is tried against
   abbrev c : Case
   c = caseIn t x
 
+  -- the address that it names
   abbrev u : List ℕ
   u = uri x
 
@@ -75,6 +77,7 @@ module _ (t : Table) (x : Input) (f : Fine t) where
   unfolding caseAt
   success-known e = grants c e .known
 
+  -- which then stands at a place
   inside : isKnown u t ≡ true → placeFor u t < length (t .records)
   unfolding isKnown
   inside k = ltb-true _ _ k

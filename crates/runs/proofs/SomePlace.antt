@@ -66,6 +66,7 @@ newPlace x r = record { taken = true; slot = written x r (placeAt (freedPlaces x
 
 module _ (x : Success) (r : Record) (token : List ℕ) (success : At x r token) (f : Place → Bool) (untaken : (o : Place) → o .taken ≡ false → f o ≡ false)
     (on : (o : Place) → f (freed (x .clock) o) ≡ f o) where
+  -- the places once those are freed whose end has come
   abbrev F : List Place
   F = freedPlaces x r
 
@@ -73,9 +74,11 @@ module _ (x : Success) (r : Record) (token : List ℕ) (success : At x r token) 
   abbrev rest : Place → Bool
   rest o = f o && not (isPresented x token o)
 
+  -- there are eight of them
   size : length F ≡ 8
   size = freedPlaces-length x r ∙ success .kept .eight
 
+  -- as many as before
   sizes : length F ≡ length (places r)
   unfolding places
   sizes = freedPlaces-length x r ∙ sym (placesIn-length (r .map) (r .slots))

@@ -38,6 +38,7 @@ abbrev pub fits : ℕ → ℕ → List ℕ → Place → Bool
 fits clock p w o = isLive clock o && (eqb (o .slot .event) p && isTagText w (o .slot .tag))
 
 module _ (r : Record) (x : Input) (e : isSuccess (outcomeOf (caseAt true r x)) ≡ true) where
+  -- what the input is tried against
   abbrev c : Case
   c = caseAt true r x
 
@@ -45,6 +46,7 @@ module _ (r : Record) (x : Input) (e : isSuccess (outcomeOf (caseAt true r x)) �
   abbrev y : Exchange
   y = answered x c
 
+  -- no refusal applied
   g : Grants c
   g = grants c e
 

@@ -37,9 +37,11 @@ unfoldable pub tells : ℕ → ℕ → List ℕ → List Exchange → Record →
 tells clock p w before r = stands w p clock before || any (left clock p w before) (places r)
 
 module _ (clock p : ℕ) (w : List ℕ) (before : List Exchange) where
+  -- a publication fits, and was not presented
   abbrev f : Place → Bool
   f = left clock p w before
 
+  -- a free place does not
   untaken : (o : Place) → o .taken ≡ false → f o ≡ false
   unfolding isLive
   untaken o e = rw e
@@ -56,6 +58,7 @@ module _ (clock p : ℕ) (w : List ℕ) (before : List Exchange) where
       go false e = refl
 
   module _ (r : Record) (x : Input) (e : isSuccess (outcomeOf (caseAt true r x)) ≡ true) where
+    -- the success, and the exchange that it makes
     abbrev s : Success
     s = successOf (caseAt true r x)
 
@@ -90,11 +93,12 @@ module _ (clock p : ℕ) (w : List ℕ) (before : List Exchange) where
         after : any f (places (recordAfter s r)) ≡ (f (newPlace s r) || any (λ o. f o && not (isPresented s (tagIn x) o)) (places r))
         after = ap (any f) (places-after s r) ∙ any-after s r (tagIn x) (at r x e kept) f untaken (on (x .clock) h) ended
 
--- of a history whose successes are not later than a clock: the first exchange, and the others
+-- of a history whose successes are not above a clock: the first exchange
 not-back-first : (clock : ℕ) (y : Exchange) (ys : List Exchange) → isNotBack clock (y ∷ ys) ≡ true → succeeded y ≡ true → y .input .clock ≤ clock
 unfolding isNotBack those every
 not-back-first clock y ys e s = leb-true _ _ (and-left _ _ (rw s at e))
 
+-- and the others
 not-back-rest : (clock : ℕ) (y : Exchange) (ys : List Exchange) → isNotBack clock (y ∷ ys) ≡ true → isNotBack clock ys ≡ true
 unfolding isNotBack those every
 not-back-rest clock y ys e = go (succeeded y) e

@@ -19,6 +19,7 @@ use Rattle.table.proofs.OneRecord.{part-lies}
 use Rattle.runs.proofs.Lists.{place-kept}
 
 module _ (t : Table) (i : ℕ) (r : Record) (bs : List ℕ) where
+  -- the table so written
   abbrev t′ : Table
   t′ = withRecord t i r bs
 
@@ -39,6 +40,7 @@ module _ (t : Table) (i : ℕ) (r : Record) (bs : List ℕ) where
   record-other j n = getD-set-other (t .records) i j r emptyRecord n
 
   module _ (size : badSize t ≡ false) (inside : i < length (t .records)) (long : length bs ≡ 4096) where
+    -- the part lies in the store
     fits : 4096 * i + length bs ≤ length (t .store)
     fits = omega (arith, part-lies t i size inside)
 

@@ -53,10 +53,11 @@ tells clock who lines =
 unfoldable pub asks : ℕ → String → String → Input
 asks clock who lines = record { clock = clock; number = 1; request = calls "PUBLISH" who lines ++ bytes "\r\n" }
 
--- the numbers of a slot, and those of a record
+-- the numbers of a slot
 unfoldable pub slotNumbers : Slot → List ℕ
 slotNumbers s = s .event ∷ s .tag ∷ s .end ∷ s .length ∷ s .number ∷ []
 
+-- the numbers of a record, its address and its slots last
 unfoldable pub recordNumbers : Record → List ℕ
 recordNumbers r =
     pick (r .used) 1 0 ∷ r .start ∷ r .spent ∷ r .clock ∷ r .map ∷ (r .address ++ joined (map slotNumbers (r .slots)))
@@ -73,6 +74,7 @@ pub record Sides : Type 0 where
   pub answer : Bool
   pub history : Bool
 
+-- the three, written in one line
 abbrev pub sides : Bool → Bool → Bool → Sides
 sides tried answer history = record { tried = tried; answer = answer; history = history }
 
@@ -105,8 +107,8 @@ wrongFrom i (x ∷ xs) = let r = wrongFrom (suc i) xs in pick (x .tried && (x .h
 unfoldable pub wrongAt : (List ℕ → ℕ → ℕ → List Exchange → Bool) → List Exchange → List ℕ
 wrongAt f history = wrongFrom 0 (sidesFrom f [] history)
 
--- what a run shows of the tags at an address: both sides of C4 at each of its inputs, the tags given, where the wrong tests are wrong,
--- where the right one is over the exchanges of every address, and whether the tags of every address differ
+-- what some exchanges show of the tags at an address: both sides of C4 at each of its inputs, the tags given, where the wrong tests are
+-- wrong, where the right one is over the exchanges of every address, and whether the tags of every address differ
 pub record Shown : Type 0 where
   pub right : List Sides
   pub tags : List (List ℕ)
@@ -116,6 +118,7 @@ pub record Shown : Type 0 where
   pub any-address : List ℕ
   pub differ-anywhere : Bool
 
+-- the same, computed
 unfoldable pub shownOf : List ℕ → List Exchange → Shown
 shownOf a all =
     let history = those (λ x. isFor a (x .input)) all in
