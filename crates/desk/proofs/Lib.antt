@@ -1,3 +1,6 @@
 pub mod LeftLaws
 pub mod TurnLaws
 pub mod OpenLaws
+pub mod ReadingLaws
+pub mod ReadToLaws
+pub mod PrintedLaws

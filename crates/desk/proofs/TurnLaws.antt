@@ -38,13 +38,18 @@ left-said t b bad h = refl
 -- a step whose text is put to a page is a turn
 pub turned : (rs : List Record) (store b l page : List ℕ) (n : ℕ) (r : Step) (store′ b′ page′ : List ℕ) (e : ℕ)
     → LeftAs rs store b (lineFrame l) r store′ b′ → length b ≡ 4608 → Wrote page 0 (lineText n (r .shown)) page′ e
-    → Turned rs store l page n (r .table) store′ page′ e
+    → Turned rs store b l page n (record { table = r .table; length = r .length; end = e }) store′ b′ page′
 unfolding LeftAs lineText printedFor tableBehind BehindAs
 turned rs store b l page n r store′ b′ page′ e w h v =
     let t : Table = record { records = rs; store = store } in
     let s : said (record { shown = r .shown; length = r .length; table = record { records = r .table; store = store′ }; buffer = b′ }) ≡ shownOf t (lineFrame l) =
     ap said w ∙ left-said t b (lineFrame l) h in
-    record { prints = rw (ap (λ (x : Said). x .text) s) at v; leaves = ap (λ (x : Said). x .table) s }
+    record {
+      prints = rw (ap (λ (x : Said). x .text) s) at v;
+      leaves = ap (λ (x : Said). x .table) s;
+      length = ap (λ (x : Left). x .length) w;
+      answer = ap (λ (x : Left). x .buffer) w;
+    }
 
 -- the listing from a line on: what is printed for it, and the listing from the next
 pub listing-next : (n : ℕ) (t : Table) (l : List ℕ) (ls : List (List ℕ))

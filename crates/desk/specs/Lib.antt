@@ -1,2 +1,4 @@
 pub mod Left
 pub mod Turned
+pub mod Reading
+pub mod ReadTo

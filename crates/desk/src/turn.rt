@@ -24,7 +24,8 @@ pub fn line_turn(
     line: &[u8],
 ) -> Turn
     requires { ⌜ (65 ≤ length (now page)) × (length (now answer) ≡ 4608) ⌝ }
-    ensures { λ r. ⌜ Turned rs (now (store .entry)) (now (line .entry)) (now (page .entry)) number (r .table) (now (store .exit)) (now (page .exit)) (r .end) ⌝ }
+    ensures { λ r. ⌜ Turned rs (now (store .entry)) (now (answer .entry)) (now (line .entry)) (now (page .entry)) number
+        r (now (store .exit)) (now (answer .exit)) (now (page .exit)) ⌝ }
 {
     let s = step::line_step(rs, store, answer, line);
     let table = s.table;

@@ -1,17 +1,23 @@
--- The turns fall; the buffers and the store keep their lengths, and what is held fits the line's buffer.
+-- The turns fall, and the buffers and the store keep their lengths. There are bytes of which what is held is what reading them gives: none
+-- at first, and with each turn the chunk that was read behind those before it.
 use mathlib.Core.Path.{_≡_}
-use Prim.Native.Nat.{_≤_}
+use mathlib.Core.List.{List, []}
+use Prim.Native.Nat.{ℕ}
 use lib.ListN.{length}
 use borrow.Author.Needs.{needs}
+use Rattle.desk.specs.Reading.{begun, readOn}
+use Rattle.desk.specs.ReadTo.{ReadTo}
+use Rattle.desk.proofs.ReadToLaws.{chunk-behind}
 use Rattle.desk.proofs.run.run.Statement.{statement}
 use Rattle.desk.proofs.run.run.Tie as tie
 
 abbrev Inv-loop : tie.InvT-loop
-Inv-loop detail chunk₀ line₀ store₀ place₀ turns₀ chunk line store place turns =
-    (length chunk ≡ length chunk₀) × (length line ≡ 8211) × (length store ≡ length store₀) × (place .held ≤ 8211)
+Inv-loop more chunk₀ line₀ store₀ place₀ turns₀ chunk line store place turns =
+    (length chunk ≡ length chunk₀) × (length line ≡ 8211) × (length store ≡ length store₀)
+    × ((bs : List ℕ) × ReadTo (readOn begun bs) line place store)
 
 abbrev μ-loop : tie.MeasureT-loop
-μ-loop detail chunk₀ line₀ store₀ place₀ turns₀ chunk line store place turns = turns
+μ-loop more chunk₀ line₀ store₀ place₀ turns₀ chunk line store place turns = turns
 
 large-buffer-requires : tie.Need-large-buffer-requires Inv-loop μ-loop
 large-buffer-requires c κs = search needs
@@ -35,7 +41,8 @@ opened-requires : tie.Need-opened-requires Inv-loop μ-loop
 opened-requires c κs = search needs
 
 loop-holds : tie.Need-loop-holds Inv-loop μ-loop
-loop-holds c = search needs
+unfolding readOn
+loop-holds c = (search needs, search needs, search needs, ([], c .before .before .opened .ensures _))
 
 read-full-requires : tie.Need-read-full-requires Inv-loop μ-loop
 read-full-requires c κs = search needs
@@ -53,7 +60,11 @@ loop-less : tie.Need-loop-less Inv-loop μ-loop
 loop-less c = search needs
 
 loop-again : tie.Need-loop-again Inv-loop μ-loop
-loop-again c = search needs
+loop-again c =
+    let t = c .before .before .before .before in
+    let l = t .before .before .before .before .before .before .before .before .before .before .before in
+    let r = l .loop .inv .3 in
+    (search needs, search needs, search needs, (_, chunk-behind _ (r .0) _ (r .1) (t .take-all .ensures)))
 
 part-of-requires-2 : tie.Need-part-of-requires-2 Inv-loop μ-loop
 part-of-requires-2 c κs = search needs

@@ -3,8 +3,8 @@ use mathlib.Core.Path.{_≡_}
 use Prim.Native.Nat.{_-_}
 use lib.ListN.{length}
 use borrow.Author.Needs.{needs}
-use Rattle.desk.proofs.run.mark.Statement.{statement}
-use Rattle.desk.proofs.run.mark.Tie as tie
+use Rattle.desk.proofs.printed.mark.Statement.{statement}
+use Rattle.desk.proofs.printed.mark.Tie as tie
 
 abbrev Inv-loop : tie.InvT-loop
 Inv-loop answer₀ i₀ answer i = length answer ≡ length answer₀
