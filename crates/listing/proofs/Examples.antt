@@ -1,19 +1,18 @@
 -- Worked examples: one refusal of each kind that the eleven lines do not show, and reading state. Each by computation.
-use Prim.Native.Nat.{ℕ}
 use mathlib.Core.Path.{_≡_, refl}
 use mathlib.Core.Bool.{true}
-use mathlib.Core.List.{List, [], _∷_, _++_}
-use lib.ListN.{replicate, length, getD}
+use mathlib.Core.List.{[], _∷_, _++_}
+use lib.ListN.{replicate}
 use Rattle.laws.specs.Bytes.{bytes}
 use Rattle.record.specs.Places.{emptyRecord}
 use Rattle.record.specs.Address.{padded}
-use Rattle.publish.specs.declared.Field.the-variants.{Nothing, Allow, AllowEvents, MinExpires, Accept, RetryAfter}
-use Rattle.publish.specs.declared.Outcome.{Outcome}
+use Rattle.publish.specs.declared.Field.the-variants.{Nothing, Allow, AllowEvents, Accept, RetryAfter}
 use Rattle.publish.specs.declared.Outcome.the-variants.{Silent, Refused, Granted}
 use Rattle.table.specs.Table.{Table}
 use Rattle.table.specs.Handle.{done}
-use Rattle.table.specs.Read.{Query, stateOf}
+use Rattle.table.specs.Read.{stateOf}
 use Rattle.table.specs.declared.Shown.the-variants.{Stored, Default, Front}
+use Rattle.listing.specs.Witness.{witnessText}
 use Rattle.listing.specs.Input.{publish, asking, telling}
 use Rattle.listing.specs.Worked.{at, annTable, back, runOf, backs}
 use Rattle.listing.specs.All.{all-listing}
@@ -126,3 +125,17 @@ read-ended = refl
 read-unknown : stateOf (record { address = bytes "ann"; name = bytes "weather"; clock = 3699 }) told ≡ record { result = 10; shown = Front }
 unfolding all-listing told
 read-unknown = refl
+
+-- the witness's own frame for the same two readings, with a default body of three bytes
+witness-live : witnessText told (bytes "020000000000000E7303616e6e0870726573656e63656f6666") ≡ bytes "read 0\n  shown store 0 1"
+unfolding all-listing told
+witness-live = refl
+
+witness-ended : witnessText told (bytes "020000000000000E7403616e6e0870726573656e63656f6666") ≡ bytes "read 0\n  shown default 3"
+unfolding all-listing told
+witness-ended = refl
+
+-- one whose package runs past its end
+witness-bad : witnessText told (bytes "020000000000000E7303616e6e0970726573656e6365") ≡ bytes "bad"
+unfolding all-listing told
+witness-bad = refl

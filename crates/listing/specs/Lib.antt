@@ -1,6 +1,7 @@
 pub mod Lent
 pub mod Frames
 pub mod Listing
+pub mod Witness
 pub mod Input
 pub mod Worked
 pub mod Flow
