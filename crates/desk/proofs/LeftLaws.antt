@@ -4,7 +4,6 @@ use mathlib.Core.List.{List}
 use Prim.Native.Nat.{ℕ}
 use Rattle.record.specs.declared.Record.{Record}
 use Rattle.table.specs.Open.{After}
-use Rattle.table.specs.Add.{added}
 use Rattle.table.specs.Handle.{Done}
 use Rattle.table.specs.declared.Handled.{Handled}
 use Rattle.listing.specs.Frames.{adds, handles, bad}

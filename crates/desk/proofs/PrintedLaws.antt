@@ -42,7 +42,7 @@ within l n t = record { held = take 8211 l; number = n; table = t }
 
 module _ (l : List ℕ) (n : ℕ) (t : Table) where
   -- it prints what the whole line prints
-  front-prints : printedHere (within l n t) ≡ printedFor n t l
+  front-prints : printedHere (within l n t) ≡ printedFor false n t l
   unfolding printedHere printedFor
   front-prints = rw (front-frame l)
 
@@ -69,7 +69,7 @@ prints [] l n t h = last l
   where
     last : (l : List ℕ) → pick (empty (take 8211 l)) [] (printedHere (within l n t)) ≡ listingFrom n t (behind l [])
     last [] = refl
-    last (b ∷ l) = front-prints (b ∷ l) n t ∙ sym (listing-next n t (b ∷ l) [] ∙ append-nil (printedFor n t (b ∷ l)))
+    last (b ∷ l) = front-prints (b ∷ l) n t ∙ sym (listing-next n t (b ∷ l) [] ∙ append-nil (printedFor false n t (b ∷ l)))
 prints (b ∷ bs) l n t h = go (eqb b 10) refl (prints bs) h
   where
     ls : List (List ℕ)
@@ -82,7 +82,7 @@ prints (b ∷ bs) l n t h = go (eqb b 10) refl (prints bs) h
         → printedOn (within l n t) (b ∷ bs) ≡ listingFrom n t (behind l (pick x ([] ∷ ls) (inFront b ls)))
     go true e r h =
         rw (e, append-nil l, listing-next n t l ls, front-ends l n t (omega arith), front-prints l n t)
-        (ap (λ (x : List ℕ). printedFor n t l ++ x) (rw (behind-nothing ls) at (r [] (n + 1) (tableBehind t l) (rw (behind-nothing ls) (omega arith)))))
+        (ap (λ (x : List ℕ). printedFor false n t l ++ x) (rw (behind-nothing ls) at (r [] (n + 1) (tableBehind t l) (rw (behind-nothing ls) (omega arith)))))
     go false e r h = rw (e, behind-byte l b ls, front-byte l n t b) (r (l ++ (b ∷ [])) n t (rw (behind-byte l b ls) at h))
 
 -- THE LAW: the bytes of an input, read one after the other, print the listing

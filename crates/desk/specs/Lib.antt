@@ -1,4 +1,5 @@
 pub mod Left
 pub mod Turned
+pub mod Told
 pub mod Reading
 pub mod ReadTo

@@ -1,4 +1,5 @@
 -- How the bytes of the input are read: one after the other, whatever the chunks in which they come.
+use mathlib.Core.Bool.{false}
 use mathlib.Core.List.{List, [], _∷_, _++_}
 use Prim.Native.Nat.{ℕ, _+_, _-_}
 use lib.Dec.{eqb}
@@ -44,9 +45,9 @@ unfoldable pub readOn : Reading → List ℕ → Reading
 readOn s [] = s
 readOn s (b ∷ bs) = readOn (byteOn s b) bs
 
--- what is printed for the line that is held
+-- what the bench prints for the line that is held
 unfoldable pub printedHere : Reading → List ℕ
-printedHere s = printedFor (s .number) (s .table) (s .held)
+printedHere s = printedFor false (s .number) (s .table) (s .held)
 
 -- what is printed for some bytes, which end the input: at LF for the line that is held, and at the end for a last line without LF
 unfoldable pub printedOn : Reading → List ℕ → List ℕ

@@ -28,9 +28,9 @@ pub fn run_line(
     let mut room = [0u8; 4608];
     let answer: &mut [u8] = &mut room;
     mark(answer);
-    let mut page = [0u8; 65];
+    let mut page = [0u8; 103];
     let out: &mut [u8] = &mut page;
-    let t = turn::line_turn(out, number, rs, store, answer, line);
+    let t = turn::line_turn(out, number, rs, store, answer, line, more);
     io::write_all(STDOUT_FILENO, part::part_of(out, 0, t.end));
     let table = t.table;
     if more {

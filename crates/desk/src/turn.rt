@@ -1,4 +1,5 @@
-// A line's turn: what the bench prints for it.
+// A line's turn: what is printed for it.
+use crate::readout;
 use crate::step;
 use frames::shown;
 use record::Record;
@@ -14,7 +15,7 @@ pub struct Turn {
     pub end: usize,
 }
 
-// Puts the line of the listing that a line gives to the front of a page.
+// Puts what is printed for a line to the front of a page: the line of the listing, or the witness's in its place where more is asked for.
 pub fn line_turn(
     page: &mut [u8],
     number: u64,
@@ -22,15 +23,17 @@ pub fn line_turn(
     store: &mut [u8],
     answer: &mut [u8],
     line: &[u8],
+    more: bool,
 ) -> Turn
-    requires { ⌜ (65 ≤ length (now page)) × (length (now answer) ≡ 4608) ⌝ }
-    ensures { λ r. ⌜ Turned rs (now (store .entry)) (now (answer .entry)) (now (line .entry)) (now (page .entry)) number
+    requires { ⌜ (103 ≤ length (now page)) × (length (now answer) ≡ 4608) ⌝ }
+    ensures { λ r. ⌜ Turned more rs (now (store .entry)) (now (answer .entry)) (now (line .entry)) (now (page .entry)) number
         r (now (store .exit)) (now (answer .exit)) (now (page .exit)) ⌝ }
 {
     let s = step::line_step(rs, store, answer, line);
     let table = s.table;
     let shown = s.shown;
-    let end = shown::put_line(page, number, shown);
+    let told = readout::line_told(table, store, line, shown, more);
+    let end = shown::put_line(page, number, told);
     Turn {
         table,
         length: s.length,

@@ -3,3 +3,4 @@ pub mod HexLaws
 pub mod FrameLaws
 pub mod TextLaws
 pub mod LineLaws
+pub mod WantedLaws

@@ -1,5 +1,5 @@
 -- How long the texts of a line are at most.
-use Prim.Native.Nat.{_≤_}
+use Prim.Native.Nat.{ℕ, _≤_}
 use native.Mathlib.Omega.{arith}
 use lib.ListN.{length, length-append}
 use Rattle.laws.specs.Bytes.{bytes}
@@ -10,10 +10,13 @@ use Rattle.publish.specs.declared.Field.{Field}
 use Rattle.publish.specs.declared.Field.the-variants.{Nothing, Allow, AllowEvents, MinExpires, Accept, RetryAfter}
 use Rattle.publish.specs.declared.Outcome.{Outcome}
 use Rattle.publish.specs.declared.Outcome.the-variants.{Silent, Refused, Granted}
+use Rattle.table.specs.declared.Shown.{Shown as Place}
+use Rattle.table.specs.declared.Shown.the-variants.{Stored, Default, Front}
 use Rattle.listing.specs.Listing.{fieldText, outcomeText}
+use Rattle.listing.specs.Witness.{placeText, readText}
 use Rattle.frames.specs.Shown.{shownText}
 use Rattle.frames.specs.declared.shown.Shown.{Shown}
-use Rattle.frames.specs.declared.shown.Shown.the-variants.{Added, Answered, Bad}
+use Rattle.frames.specs.declared.shown.Shown.the-variants.{Added, Answered, Read, Bad}
 
 -- a number, or -, is at most 20 bytes
 field-most : (f : Field) → length (fieldText f) ≤ 20
@@ -32,9 +35,17 @@ outcome-most (Silent n) = omega (arith, length-append (bytes "none ") (decimalOf
 outcome-most (Refused status field) = simp length-append (omega (arith, decimal-twenty status, field-most field))
 outcome-most (Granted tag time) = simp length-append (omega (arith, eight-length tag, decimal-twenty time))
 
--- and so is what is shown of a line
-pub shown-most : (s : Shown) → length (shownText s) ≤ 43
-unfolding shownText
+-- where what is shown lies is at most 47
+place-most : (n : ℕ) (s : Place) → length (placeText n s) ≤ 47
+unfolding placeText
+place-most n (Stored from size) = simp length-append (omega (arith, decimal-twenty from, decimal-twenty size))
+place-most n Default = omega (arith, length-append (bytes "default ") (decimalOf n), decimal-twenty n)
+place-most n Front = omega arith
+
+-- what is shown of a line is at most 81
+pub shown-most : (s : Shown) → length (shownText s) ≤ 81
+unfolding shownText readText
 shown-most (Added n) = omega (arith, length-append (bytes "add ") (decimalOf n), decimal-twenty n)
-shown-most (Answered o) = outcome-most o
+shown-most (Answered o) = omega (arith, outcome-most o)
+shown-most (Read s n) = simp length-append (omega (arith, decimal-twenty (s .result), place-most n (s .shown)))
 shown-most Bad = omega arith

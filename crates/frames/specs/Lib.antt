@@ -1,3 +1,4 @@
 pub mod Lines
 pub mod Asked
+pub mod Wanted
 pub mod Shown

@@ -4,13 +4,15 @@ use mathlib.Core.List.{List, _++_}
 use Rattle.laws.specs.Bytes.{bytes}
 use Rattle.text.specs.Digits.{decimalOf}
 use Rattle.listing.specs.Listing.{outcomeText}
+use Rattle.listing.specs.Witness.{readText}
 use Rattle.frames.specs.declared.shown.Shown.{Shown}
-use Rattle.frames.specs.declared.shown.Shown.the-variants.{Added, Answered, Bad}
+use Rattle.frames.specs.declared.shown.Shown.the-variants.{Added, Answered, Read, Bad}
 
--- "add" and result; or what the outcome says; or "bad"
+-- "add" and result; or what the outcome says; or what was read; or "bad"
 unfoldable pub shownText : Shown → List ℕ
 shownText (Added n) = bytes "add " ++ decimalOf n
 shownText (Answered o) = outcomeText o
+shownText (Read s n) = readText n s
 shownText Bad = bytes "bad"
 
 -- a line: its number, and what is shown

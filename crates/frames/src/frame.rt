@@ -32,7 +32,7 @@ fn four(f: &[u8], i: usize) -> u32
 }
 
 // The number of the eight bytes from a position on, high first.
-fn eight(f: &[u8], i: usize) -> u64
+pub fn eight(f: &[u8], i: usize) -> u64
     requires { ⌜ i + 8 ≤ length (now f) ⌝ }
     ensures { λ r. ⌜ r ≡ highFirst 0 (part (now (f .entry)) i (i + 8)) ⌝ }
 {

@@ -1,19 +1,22 @@
-// A line of the listing.
+// A line of the listing, or the two that the witness has in its place where it reads state.
+use crate::readout;
+use crate::words;
 use publish::Field;
 use publish::Outcome;
-ghost use mathlib.Core.List.{_++_};
+use table::State;
 ghost use Prim.Native.Nat.{_+_, _≤_};
 ghost use lib.ListN.{length};
 ghost use Rattle.laws.specs.Wrote.{Wrote};
-ghost use Rattle.text.specs.Digits.{decimalOf};
 ghost use Rattle.listing.specs.Listing.{fieldText, outcomeText};
 ghost use Rattle.publish.specs.declared.Outcome.the-variants.{Refused, Granted};
 ghost use Rattle.frames.specs.Shown.{shownText, lineText};
 
-// What came of a line: the result of adding, the outcome of a request, or that it was not so built.
+// What came of a line: the result of adding, the outcome of a request, the state that was read with the length of the default body, or that
+// it was not so built.
 pub enum Shown {
     Added(u8),
     Answered(Outcome),
+    Read(State, usize),
     Bad,
 }
 
@@ -53,22 +56,13 @@ fn put_granted(buf: &mut [u8], at: usize, tag: u32, time: u32) -> usize
     text::digits::put_decimal(buf, e, time as u64)
 }
 
-// Puts a word with the space behind it, and a number.
-fn put_result(buf: &mut [u8], at: usize, word: &[u8], n: u8) -> usize
-    requires { ⌜ at + (length (now word) + 20) ≤ length (now buf) ⌝ }
-    ensures { λ r. ⌜ Wrote (now (buf .entry)) at (now (word .entry) ++ decimalOf n) (now (buf .exit)) r ⌝ }
-{
-    let p = text::put::put(buf, at, word);
-    text::digits::put_decimal(buf, p, n as u64)
-}
-
 // Puts what an outcome says.
 fn put_outcome(buf: &mut [u8], at: usize, o: Outcome) -> usize
     requires { ⌜ at + 43 ≤ length (now buf) ⌝ }
     ensures { λ r. ⌜ Wrote (now (buf .entry)) at (outcomeText o) (now (buf .exit)) r ⌝ }
 {
     match o {
-        Outcome::Silent(n) => put_result(buf, at, b"none ", n),
+        Outcome::Silent(n) => words::put_word(buf, at, b"none ", n as u64),
         Outcome::Refused(status, field) => put_refused(buf, at, status, field),
         Outcome::Granted(tag, time) => put_granted(buf, at, tag, time),
     }
@@ -76,19 +70,20 @@ fn put_outcome(buf: &mut [u8], at: usize, o: Outcome) -> usize
 
 // Puts what is shown of a line.
 fn put_shown(buf: &mut [u8], at: usize, s: Shown) -> usize
-    requires { ⌜ at + 43 ≤ length (now buf) ⌝ }
+    requires { ⌜ at + 81 ≤ length (now buf) ⌝ }
     ensures { λ r. ⌜ Wrote (now (buf .entry)) at (shownText s) (now (buf .exit)) r ⌝ }
 {
     match s {
-        Shown::Added(n) => put_result(buf, at, b"add ", n),
+        Shown::Added(n) => words::put_word(buf, at, b"add ", n as u64),
         Shown::Answered(o) => put_outcome(buf, at, o),
+        Shown::Read(s, n) => readout::put_read(buf, at, n, s),
         Shown::Bad => text::put::put(buf, at, b"bad"),
     }
 }
 
 // Puts a line of the listing: its number, and what is shown.
 pub fn put_line(buf: &mut [u8], number: u64, s: Shown) -> usize
-    requires { ⌜ 65 ≤ length (now buf) ⌝ }
+    requires { ⌜ 103 ≤ length (now buf) ⌝ }
     ensures { λ r. ⌜ Wrote (now (buf .entry)) 0 (lineText number s) (now (buf .exit)) r ⌝ }
 {
     let p = text::digits::put_decimal(buf, 0, number);

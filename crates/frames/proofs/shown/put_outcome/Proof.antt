@@ -7,11 +7,14 @@ use Rattle.frames.proofs.shown.put_outcome.Tie as tie
 enum-known-o : tie.Need-enum-known-o
 enum-known-o c = search needs
 
-slice-aggregate-put-result : tie.Need-slice-aggregate-put-result
-slice-aggregate-put-result c = search needs
+slice-aggregate-put-word : tie.Need-slice-aggregate-put-word
+slice-aggregate-put-word c = search needs
 
-put-result-requires : tie.Need-put-result-requires
-put-result-requires c κs = search needs
+cast-put-word : tie.Need-cast-put-word
+cast-put-word c = search needs
+
+put-word-requires : tie.Need-put-word-requires
+put-word-requires c κs = search needs
 
 enum-known-o-2 : tie.Need-enum-known-o-2
 enum-known-o-2 c = search needs
@@ -30,7 +33,7 @@ same-length c = search needs
 
 returns : tie.Need-returns
 unfolding outcomeText
-returns c = rw (c .before .before .before .before .before .before .o .given .1) (c .before .before .put-result .ensures)
+returns c = rw (c .before .before .before .before .before .before .o .given .1) (c .before .before .put-word .ensures)
 
 same-length-2 : tie.Need-same-length-2
 same-length-2 c = search needs
@@ -49,8 +52,9 @@ put-outcome-spec =
     tie.close
     (tie.spec
     enum-known-o
-    slice-aggregate-put-result
-    put-result-requires
+    slice-aggregate-put-word
+    cast-put-word
+    put-word-requires
     enum-known-o-2
     put-refused-requires
     enum-known-o-3
