@@ -1,7 +1,10 @@
 pub mod First
+pub mod Bools
 pub mod Below
 pub mod Table
 pub mod Tests
 pub mod Rows
 pub mod Parts
 pub mod Wrote
+pub mod Puts
+pub mod Lists

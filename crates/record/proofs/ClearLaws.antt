@@ -17,7 +17,7 @@ use Rattle.laws.proofs.Parts.{part-length, put-part-behind}
 use Rattle.record.specs.Places.{Place, placesIn, smaller}
 use Rattle.record.specs.Store.{room, cleared}
 use Rattle.record.specs.declared.Slot.{Slot}
-use Rattle.record.proofs.PutLaws.{put-none, put-then, put-into, part-drop}
+use Rattle.laws.proofs.Puts.{put-none, put-then, put-into, part-drop}
 use Rattle.record.proofs.StoreLaws.{room-length, cleared-length, placesIn-length}
 
 -- the first of some zeros are zeros

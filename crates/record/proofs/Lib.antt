@@ -10,7 +10,6 @@ pub mod SoundLaws
 pub mod StoreLaws
 pub mod Cleared
 pub mod FreedLaws
-pub mod PutLaws
 pub mod ClearLaws
 pub mod Stands
 pub mod AfterLaws

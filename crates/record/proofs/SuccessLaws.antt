@@ -22,7 +22,7 @@ use Rattle.record.specs.declared.Record.{Record}
 use Rattle.record.specs.declared.Success.{Success}
 use Rattle.record.proofs.MapLaws.{map-lowest, map-with, map-without}
 use Rattle.record.proofs.StoreLaws.{slotsOf-length, partAfter-length}
-use Rattle.record.proofs.PutLaws.{put-same, put-again}
+use Rattle.laws.proofs.Puts.{put-same, put-again}
 use Rattle.record.proofs.AfterLaws.{places-after}
 
 -- the lowest free of k places is at most k

@@ -4,25 +4,15 @@ use mathlib.Core.Bool.{Bool, true, false, or-false}
 use mathlib.Core.List.{List, [], _∷_}
 use Prim.Native.Nat.{ℕ, suc, _+_, _≤_}
 use native.Mathlib.Omega.{arith}
-use lib.ListN.{length, getD, drop}
-use Rattle.laws.specs.Choose.{pick}
+use lib.ListN.{getD, drop}
 use Rattle.laws.specs.Lists.{placeOf, any}
+use Rattle.laws.proofs.Lists.{place-within}
 use Rattle.text.specs.Names.{sameText, isNamed}
 use Rattle.request.specs.Names.{spellings, nameNumber}
 
 -- the spellings of the name that has a number
 abbrev pub spelled : ℕ → List (List ℕ)
 spelled n = getD spellings n []
-
--- a place that is looked for lies within the list or at its end
-pub place-within : {A : Type 0} (f : A → Bool) (xs : List A) → placeOf f xs ≤ length xs
-unfolding placeOf
-place-within f [] = omega arith
-place-within f (x ∷ xs) = go (f x) (place-within f xs)
-  where
-    go : (b : Bool) → placeOf f xs ≤ length xs → pick b 0 (suc (placeOf f xs)) ≤ suc (length xs)
-    go true h = omega arith
-    go false h = omega arith
 
 -- the numbers are at most 10
 pub number-within : (t : List ℕ) → nameNumber t ≤ 10

@@ -25,7 +25,7 @@ use Rattle.table.proofs.OneRecord.{add-writes}
 use Rattle.runs.specs.Run.{hasNumbers}
 use Rattle.runs.specs.Added.{isOf, isAmong, isTaken}
 use Rattle.runs.proofs.Fine.{Fine, fine-added}
-use Rattle.runs.proofs.Lists.{none-any, place-below, place-copies, place-in, at-among, map-end, every-end, zeros-part, zeros-among}
+use Rattle.laws.proofs.Lists.{none-any, place-below, place-copies, place-in, at-among, map-end, every-end, zeros-part, zeros-among}
 
 -- so many records, the first of them fresh ones of these entries and the others empty, and a zeroed store
 unfoldable pub tableWith : ℕ → List Entry → Table

@@ -18,8 +18,8 @@ use Rattle.table.specs.Handle.{caseOf}
 use Rattle.table.specs.Run.{Sending}
 use Rattle.runs.specs.Run.{hasRoom}
 use Rattle.runs.specs.Reach.{rowsBefore, isRead}
-use Rattle.runs.proofs.Bools.{none-of-three}
-use Rattle.runs.proofs.Lists.{any-append}
+use Rattle.laws.proofs.Bools.{none-of-three}
+use Rattle.laws.proofs.Lists.{any-append}
 use Rattle.runs.proofs.Fine.{Fine}
 use Rattle.runs.proofs.Sent.{uri, ownIn, roomy}
 

@@ -1,6 +1,6 @@
 -- What the history of an address alone tells: at its end, which publications are live; at every moment, whether a presented tag matches.
 use mathlib.Core.Path.{_≡_, refl, sym, _∙_}
-use mathlib.Core.Bool.{true, false, not}
+use mathlib.Core.Bool.{true, false, not, and-true, or-false}
 use mathlib.Core.List.{List, [], _∷_}
 use Prim.Native.Nat.{ℕ, _≤_}
 use native.Mathlib.Omega.{arith}
@@ -22,7 +22,6 @@ use Rattle.table.specs.Run.{Exchange}
 use Rattle.runs.specs.Reach.{isRead, Moment}
 use Rattle.runs.specs.Alone.{caseAt, answered, beginning, aloneFrom, alone}
 use Rattle.runs.specs.Tags.{hasTag, tagIn, packageIn, stands, someLeft, isNotBack, isTried, matched}
-use Rattle.runs.proofs.Bools.{and-true, or-false}
 use Rattle.runs.proofs.Kept.{Kept, kept-fresh, kept-on}
 use Rattle.runs.proofs.SomePlace.{any-agree}
 use Rattle.runs.proofs.Succeeds.{fits}

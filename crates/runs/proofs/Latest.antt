@@ -1,6 +1,6 @@
 -- The clock of the record of an address alone is that of its latest success, and none was later.
 use mathlib.Core.Path.{_≡_, refl, sym, _∙_}
-use mathlib.Core.Bool.{Bool, true, false, _&&_}
+use mathlib.Core.Bool.{Bool, true, false, _&&_, and-true, and-false}
 use mathlib.Core.List.{List, [], _∷_}
 use Prim.Native.Nat.{ℕ, _≤_}
 use native.Mathlib.Omega.{arith}
@@ -17,7 +17,6 @@ use Rattle.table.specs.Run.{Exchange}
 use Rattle.table.proofs.GrantedLaws.{grants}
 use Rattle.runs.specs.Alone.{caseAt, answered, beginning, aloneFrom}
 use Rattle.runs.specs.Tags.{cameBack, succeeded, isNotBack}
-use Rattle.runs.proofs.Bools.{and-true, and-false}
 
 -- what is not above a clock below another is not above that
 covers : (a b clock : ℕ) (n : Bool) → a ≤ b → (leb b clock && n) ≡ (leb a clock && (leb b clock && n))

@@ -1,5 +1,3 @@
-pub mod Bools
-pub mod Lists
 pub mod Fine
 pub mod Outcome
 pub mod Moments

@@ -1,7 +1,7 @@
 -- Whether some place passes a test, before and after a success: the place that is written may, the one that was presented does no
 -- more, and any other does as before.
 use mathlib.Core.Path.{_≡_, refl, sym, _∙_, ap}
-use mathlib.Core.Bool.{Bool, true, false, not, _&&_, _||_, true≢false}
+use mathlib.Core.Bool.{Bool, true, false, not, _&&_, _||_, true≢false, and-true, and-false}
 use mathlib.Core.List.{List, [], _∷_}
 use Prim.Native.Nat.{ℕ, zero, suc, _<_}
 use native.Mathlib.Decide.{ℕ-discrete}
@@ -23,7 +23,7 @@ use Rattle.record.specs.declared.Success.{Success}
 use Rattle.record.proofs.Places.{placeAt}
 use Rattle.record.proofs.Stands.{freed-at}
 use Rattle.record.proofs.StoreLaws.{placesIn-length, freedPlaces-length}
-use Rattle.runs.proofs.Bools.{and-true, and-false, or-turned}
+use Rattle.laws.proofs.Bools.{or-turned}
 use Rattle.runs.proofs.Kept.{Kept, small}
 
 -- with one place replaced: the new one passes, or one does with that place free

@@ -1,6 +1,6 @@
 -- Whether a tag stands, as a statement and as a test that computes: the two are one.
 use mathlib.Core.Path.{_≡_, refl, sym, ap}
-use mathlib.Core.Bool.{Bool, true, false, _&&_, not, true≢false}
+use mathlib.Core.Bool.{Bool, true, false, _&&_, not, true≢false, or-true}
 use mathlib.Core.List.{List, [], _∷_, _++_}
 use mathlib.Core.Logic.{_↔_}
 use Prim.Native.Nat.{ℕ}
@@ -10,7 +10,6 @@ use Rattle.laws.specs.Lists.{any}
 use Rattle.laws.proofs.Tests.{and-left, and-right, and-both}
 use Rattle.table.specs.Run.{Exchange}
 use Rattle.runs.specs.Tags.{Stands, someLeft, stands, gave, endOf, presentedTag, tagGiven}
-use Rattle.runs.proofs.Bools.{or-true}
 
 module _ (t : List ℕ) (p clock : ℕ) where
   -- an exchange is the one

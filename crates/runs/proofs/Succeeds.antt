@@ -1,7 +1,7 @@
 -- A success at the record of an address, told by its input and its answer: what it gave is what it wrote, and what it presented is what
 -- it matched.
 use mathlib.Core.Path.{_≡_, refl, sym, _∙_, ap₂}
-use mathlib.Core.Bool.{Bool, true, false, _&&_, true≢false}
+use mathlib.Core.Bool.{Bool, true, false, _&&_, true≢false, and-comm}
 use mathlib.Core.List.{List}
 use Prim.Native.Nat.{ℕ}
 use native.Mathlib.Omega.{arith}
@@ -29,7 +29,6 @@ use Rattle.table.proofs.OneRecord.{none-refusing}
 use Rattle.table.proofs.GrantedLaws.{Grants, grants, slot-there}
 use Rattle.runs.specs.Alone.{caseAt, answered}
 use Rattle.runs.specs.Tags.{hasTag, tagIn, packageIn, cameBack, succeeded, tagOfOutcome, timeOfOutcome, tagGiven, endOf, gave, presentedTag}
-use Rattle.runs.proofs.Bools.{and-turned}
 use Rattle.runs.proofs.Kept.{Kept}
 use Rattle.runs.proofs.SomePlace.{At, newPlace}
 
@@ -58,7 +57,7 @@ module _ (r : Record) (x : Input) (e : isSuccess (outcomeOf (caseAt true r x)) �
   -- what it gave, and how long, is what it wrote
   pub gave-new : (clock p : ℕ) (w : List ℕ) → (gave w p y && ltb clock (endOf y)) ≡ fits clock p w (newPlace (successOf c) r)
   unfolding gave succeeded cameBack tagGiven endOf answered packageIn tagOfOutcome timeOfOutcome isSuccess caseAt successOf successFor written isLive
-  gave-new clock p w = rw gives (and-turned (eqb _ p && isTagText w _) (ltb clock _))
+  gave-new clock p w = rw gives (and-comm (eqb _ p && isTagText w _) (ltb clock _))
 
   -- a tag matched exactly if one was presented
   match-is : isMatch (successOf c) ≡ hasTag x

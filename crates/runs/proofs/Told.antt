@@ -23,7 +23,7 @@ use Rattle.table.specs.Handle.{Input}
 use Rattle.table.specs.Run.{Exchange}
 use Rattle.runs.specs.Alone.{caseAt, answered, beginning, aloneFrom}
 use Rattle.runs.specs.Tags.{cameBack, succeeded, tagOfOutcome, tagGiven, endOf, gave, presentedTag, someLeft, stands, isNotBack, tagIn}
-use Rattle.runs.proofs.Bools.{and-neither, or-turned, or-together}
+use Rattle.laws.proofs.Bools.{and-neither, or-turned, or-together}
 use Rattle.runs.proofs.Kept.{Kept, kept-on}
 use Rattle.runs.proofs.SomePlace.{isPresented, newPlace, any-agree, any-after}
 use Rattle.runs.proofs.Succeeds.{fits, gives, gave-new, presented-is, at}

@@ -25,7 +25,7 @@ use Rattle.table.specs.Handle.{Input}
 use Rattle.runs.specs.Reach.{isRead}
 use Rattle.runs.specs.Alone.{caseAt, answered}
 use Rattle.runs.specs.Tags.{hasTag, tagIn, packageIn, cameBack, matched}
-use Rattle.runs.proofs.Lists.{place-found}
+use Rattle.laws.proofs.Lists.{place-found}
 use Rattle.runs.proofs.Outcome.{first-fails, outcomeFrom, rowsFrom, outcome-read}
 use Rattle.runs.proofs.Kept.{Kept}
 use Rattle.runs.proofs.Succeeds.{fits}

@@ -16,7 +16,7 @@ use Rattle.record.specs.Store.{partOf, partAt, withPart}
 use Rattle.record.specs.declared.Record.{Record}
 use Rattle.table.specs.Table.{Table, badSize, placeFor, isKnown, recordAt, withRecord}
 use Rattle.table.proofs.OneRecord.{part-lies}
-use Rattle.runs.proofs.Lists.{place-kept}
+use Rattle.laws.proofs.Lists.{place-kept}
 
 module _ (t : Table) (i : ℕ) (r : Record) (bs : List ℕ) where
   -- the table so written

@@ -12,7 +12,7 @@ use borrow.Author.Tests.{ne-eqb}
 use Rattle.laws.specs.Choose.{pick}
 use Rattle.laws.specs.First.{firstOf}
 use Rattle.laws.specs.Lists.{placeOf}
-use Rattle.request.proofs.NumberedLaws.{place-within}
+use Rattle.laws.proofs.Lists.{place-within}
 use Rattle.record.specs.Address.{isFor}
 use Rattle.record.specs.Packages.{packageNamed, isListed}
 use Rattle.record.specs.Places.{emptyRecord, freePlace, placesIn, newest}

@@ -10,7 +10,7 @@ use borrow.Author.Tests.{ltb-true}
 use Rattle.laws.proofs.Parts.{part-size}
 use Rattle.request.specs.Fields.{there, bodyLength, body}
 use Rattle.request.specs.declared.Head.{Head}
-use Rattle.request.proofs.NumberedLaws.{place-within}
+use Rattle.laws.proofs.Lists.{place-within}
 use Rattle.request.proofs.FieldLaws.{body-there}
 use Rattle.record.specs.Places.{places, matching}
 use Rattle.record.specs.After.{writtenSlot}

@@ -9,7 +9,7 @@ use lib.ListN.{length, take, set, replicate, length-replicate}
 use lib.Seq.{take-all}
 use Rattle.laws.specs.Wrote.{Wrote}
 use Rattle.laws.proofs.Wrote.{wrote-whole}
-use Rattle.record.proofs.PutLaws.{zeros-more}
+use Rattle.laws.proofs.Puts.{zeros-more}
 use Rattle.publish.specs.Refusals.{isBadSize}
 use Rattle.table.specs.Gathered.{openResult, openStore}
 

@@ -5,7 +5,7 @@ use Prim.Native.Nat.{_+_, _*_}
 use native.Mathlib.Omega.{arith}
 use denote.Ref.{now}
 use Rattle.record.specs.Store.{roomAt, partAt, partOf, withPart}
-use Rattle.record.proofs.PutLaws.{put-into}
+use Rattle.laws.proofs.Puts.{put-into}
 use Rattle.record.proofs.store.put_body.Statement.{statement}
 use Rattle.record.proofs.store.put_body.Tie as tie
 

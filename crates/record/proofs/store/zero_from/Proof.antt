@@ -8,7 +8,7 @@ use lib.ListN.{length, take, replicate, length-replicate}
 use lib.Seq.{take-all}
 use Rattle.laws.specs.Wrote.{Wrote}
 use Rattle.laws.proofs.Wrote.{wrote-none}
-use Rattle.record.proofs.PutLaws.{zeros-more}
+use Rattle.laws.proofs.Puts.{zeros-more}
 use Rattle.record.proofs.store.zero_from.Statement.{statement}
 use Rattle.record.proofs.store.zero_from.Tie as tie
 

@@ -9,12 +9,12 @@ use lib.Dec.{ltb}
 use lib.ListN.{length, getD, set, replicate, length-replicate, getD-replicate}
 use lib.Seq.{ext-getD}
 use borrow.Author.Tests.{ltb-true, ltb-false, lt-ltb, le-ltb}
 use Rattle.laws.specs.Choose.{pick}
 use Rattle.laws.specs.Lists.{any, every, placeOf, part, putAt}
 use Rattle.laws.proofs.Tests.{every-head, every-tail, every-cons}
 use Rattle.laws.proofs.Parts.{part-length, part-at}
-use Rattle.record.proofs.PutLaws.{put-same}
-use Rattle.runs.proofs.Bools.{or-together}
+use Rattle.laws.proofs.Puts.{put-same}
+use Rattle.laws.proofs.Bools.{or-together}
 
 -- a test that always fails holds nowhere
 pub none-any : {A : Type 0} (xs : List A) → any (λ x. false) xs ≡ false
@@ -27,6 +27,16 @@ pub any-append : {A : Type 0} (f : A → Bool) (xs ys : List A) → any f (xs ++
 unfolding any
 any-append f [] ys = refl
 any-append f (x ∷ xs) ys = ap (λ (b : Bool). f x || b) (any-append f xs ys) ∙ or-together (f x) (any f xs) (any f ys)
+
+-- a place that is looked for lies within the list or at its end
+pub place-within : {A : Type 0} (f : A → Bool) (xs : List A) → placeOf f xs ≤ length xs
+unfolding placeOf
+place-within f [] = omega arith
+place-within f (x ∷ xs) = go (f x) (place-within f xs)
+  where
+    go : (b : Bool) → placeOf f xs ≤ length xs → pick b 0 (suc (placeOf f xs)) ≤ suc (length xs)
+    go true h = omega arith
+    go false h = omega arith
 
 -- both numbers one more
 below-more : (a b : ℕ) → ltb (suc a) (suc b) ≡ ltb a b
