@@ -1,7 +1,6 @@
 -- What is shown of the store lies in it, whatever records and store are lent: only sound records in a store of their size are shown.
-use mathlib.Core.Path.{_≡_, refl, sym, _∙_, ap}
-use mathlib.Core.Bool.{Bool, true, false, not, _||_, _&&_}
-use mathlib.Core.List.{List}
+use mathlib.Core.Path.{_≡_, refl}
+use mathlib.Core.Bool.{Bool, true, false, not}
 use Prim.Native.Nat.{ℕ, _+_, _*_, _<_, _≤_}
 use native.Mathlib.Decide.{decLt}
 use native.Mathlib.Omega.{arith}
@@ -9,13 +8,13 @@ use lib.Dec.{eqb, ltb}
 use lib.ListN.{length, getD, List·getD-eq-default}
 use borrow.Author.Tests.{ltb-true, eqb-true, not-false}
 use Rattle.laws.specs.Choose.{pick}
-use Rattle.laws.specs.First.{firstOf, tests}
+use Rattle.laws.specs.First.{tests}
 use Rattle.laws.specs.Lists.{every}
 use Rattle.laws.proofs.Tests.{and-left, or-left, every-at, place-holds}
 use Rattle.laws.proofs.Rows.{none-refused}
-use Rattle.record.specs.Address.{isFor, sameAddress, addressOf}
-use Rattle.record.specs.Packages.{packageNamed, isListed}
-use Rattle.record.specs.Places.{Place, emptyRecord, freePlace, places, isLive, isOf, newest}
+use Rattle.record.specs.Address.{isFor}
+use Rattle.record.specs.Packages.{packageNamed}
+use Rattle.record.specs.Places.{emptyRecord, freePlace, places, isLive, isOf, newest}
 use Rattle.record.specs.Sound.{isSound, allSound}
 use Rattle.record.specs.Store.{partAt, roomAt}
 use Rattle.record.specs.declared.Record.{Record}
@@ -23,7 +22,6 @@ use Rattle.record.proofs.Places.{placeAt}
 use Rattle.record.proofs.SoundLaws.{sound-found}
 use Rattle.table.specs.Table.{Table, badSize, placeFor, isKnown, recordAt}
 use Rattle.table.specs.Read.{Query, askedRecord, askedRows, readRefusals, bodyAt, newestBody, shownFor, stateWith, stateOf}
-use Rattle.table.specs.declared.Shown.{Shown}
 use Rattle.table.specs.declared.Shown.the-variants.{Stored, Default, Front}
 use Rattle.table.proofs.OneRecord.{part-lies}
 

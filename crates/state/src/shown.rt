@@ -4,10 +4,9 @@ use record::Record;
 use table::Shown;
 ghost use mathlib.Core.Path.{_≡_};
 ghost use Prim.Native.Nat.{_+_};
-ghost use lib.ListN.{length};
 ghost use Rattle.laws.specs.Lists.{part};
 ghost use Rattle.table.specs.Read.{shownBytes};
-ghost use Rattle.state.specs.Gathered.{stateGathered, ReadGathered};
+ghost use Rattle.state.specs.Gathered.{ReadGathered};
 
 // n bytes of the store from a position on, as far as it goes.
 fn stored(store: &[u8], from: usize, n: usize) -> &[u8]

@@ -1,6 +1,6 @@
 -- From what the walks know, the contracts: the covered functions settle over the records gathered what the definitions settle of the
 -- lent table, once the record kept is put at its place.
-use mathlib.Core.Path.{_≡_, refl, sym, _∙_, ap}
+use mathlib.Core.Path.{_≡_, sym, _∙_, ap}
 use mathlib.Core.List.{List}
 use Prim.Native.Nat.{ℕ}
 use lib.ListN.{length, set}
@@ -9,7 +9,6 @@ use Rattle.lent.specs.Sixteen.{firstSixteen}
 use Rattle.table.specs.Gathered.{openResult, openStore, emptiedTo, entryOf, addOut, addStore, handleOut, handleStore, handleAnswer}
 use Rattle.table.specs.Read.{readoutOf}
 use Rattle.table.specs.declared.Handled.{Handled}
-use Rattle.table.specs.declared.State.{State}
 use Rattle.table.specs.declared.adding.Added.{Added}
 use Rattle.table.specs.declared.handling.Settled.{Settled}
 use Rattle.table.proofs.GatheredLaws.{open-gathered, add-gathered, handle-gathered}

@@ -1,5 +1,4 @@
 -- The state gives the result that is told, and what is shown.
-use mathlib.Core.Path.{_≡_}
 use borrow.Author.Needs.{needs}
 use Rattle.state.specs.Gathered.{ReadGathered}
 use Rattle.table.specs.Read.{readoutOf}

@@ -1,5 +1,4 @@
 -- The first n bytes of all that is left.
-use mathlib.Core.Path.{_∙_}
 use borrow.Author.Needs.{needs}
 use Rattle.laws.proofs.Parts.{part-front}
 use Rattle.state.proofs.shown.stored.Statement.{statement}
