@@ -38,7 +38,7 @@ behind-byte l b (y ∷ ys) = rw (append-assoc l (b ∷ []) y)
 
 -- a line of which the front is held, as much as there is room for
 abbrev within : List ℕ → ℕ → Table → Reading
-within l n t = record { held = take 8211 l; number = n; table = t }
+within l n t = record { held = take 8211 l; nth = n; table = t }
 
 module _ (l : List ℕ) (n : ℕ) (t : Table) where
   -- it prints what the whole line prints

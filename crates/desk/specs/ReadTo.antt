@@ -6,14 +6,14 @@ use Prim.Native.Nat.{ℕ, _≤_}
 use Rattle.laws.specs.Choose.{pick}
 use Rattle.laws.specs.Lists.{part}
 use Rattle.desk.specs.Reading.{Reading, holdOn, lineOn}
-use Rattle.desk.specs.declared.reading.Place.{Place}
+use Rattle.desk.specs.declared.reading.Progress.{Progress}
 
 -- the front of the line's buffer is held, and the records and the store are the table
-unfoldable pub readingOf : List ℕ → Place → List ℕ → Reading
-readingOf line p store = record { held = part line 0 (p .held); number = p .number; table = record { records = p .table; store = store } }
+unfoldable pub readingOf : List ℕ → Progress → List ℕ → Reading
+readingOf line p store = record { held = part line 0 (p .held); nth = p .nth; table = record { records = p .table; store = store } }
 
 -- the program has read to that state, and what is held fits the line's buffer
-pub record ReadTo (s : Reading) (line : List ℕ) (p : Place) (store : List ℕ) : Type 0 where
+pub record ReadTo (s : Reading) (line : List ℕ) (p : Progress) (store : List ℕ) : Type 0 where
   pub fits : p .held ≤ 8211
   pub reads : readingOf line p store ≡ s
 

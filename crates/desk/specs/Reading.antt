@@ -13,16 +13,16 @@ use Rattle.desk.specs.Turned.{printedFor, tableBehind}
 -- what is held of the line so far, its number, and the table before it
 pub record Reading : Type 0 where
   pub held : List ℕ
-  pub number : ℕ
+  pub nth : ℕ
   pub table : Table
 
 -- before the first line
 unfoldable pub begun : Reading
-begun = record { held = []; number = 1; table = openTable 16 }
+begun = record { held = []; nth = 1; table = openTable 16 }
 
 -- some bytes more of a line: those are held that there is room for, since 8,211 show that it is too long
 unfoldable pub holdOn : Reading → List ℕ → Reading
-holdOn s bs = record { held = s .held ++ take (8211 - length (s .held)) bs; number = s .number; table = s .table }
+holdOn s bs = record { held = s .held ++ take (8211 - length (s .held)) bs; nth = s .nth; table = s .table }
 
 -- the greatest number of 64 bits
 abbrev pub greatest : ℕ
@@ -34,7 +34,7 @@ nextNumber n = pick (eqb n greatest) n (n + 1)
 
 -- the line that is held is run, and the next begins
 unfoldable pub lineOn : Reading → Reading
-lineOn s = record { held = []; number = nextNumber (s .number); table = tableBehind (s .table) (s .held) }
+lineOn s = record { held = []; nth = nextNumber (s .nth); table = tableBehind (s .table) (s .held) }
 
 -- one byte more: LF runs the line, any other is held
 unfoldable pub byteOn : Reading → ℕ → Reading
@@ -47,7 +47,7 @@ readOn s (b ∷ bs) = readOn (byteOn s b) bs
 
 -- what the bench prints for the line that is held
 unfoldable pub printedHere : Reading → List ℕ
-printedHere s = printedFor false (s .number) (s .table) (s .held)
+printedHere s = printedFor false (s .nth) (s .table) (s .held)
 
 -- what is printed for some bytes, which end the input: at LF for the line that is held, and at the end for a last line without LF
 unfoldable pub printedOn : Reading → List ℕ → List ℕ

@@ -20,7 +20,7 @@ pub fn run_line(
     rs: [Record; 16],
     store: &mut [u8],
     line: &[u8],
-    number: u64,
+    nth: u64,
     more: bool,
 ) -> [Record; 16]
     ensures { λ r. ⌜ BehindAs rs (now (store .entry)) (now (line .entry)) r (now (store .exit)) ⌝ }
@@ -30,7 +30,7 @@ pub fn run_line(
     mark(answer);
     let mut page = [0u8; 103];
     let out: &mut [u8] = &mut page;
-    let t = turn::line_turn(out, number, rs, store, answer, line, more);
+    let t = turn::line_turn(out, nth, rs, store, answer, line, more);
     io::write_all(STDOUT_FILENO, part::part_of(out, 0, t.end));
     let table = t.table;
     if more {

@@ -11,14 +11,14 @@ ghost use Rattle.desk.specs.Reading.{begun, holdOn, nextNumber, lineOn, 
 ghost use Rattle.desk.specs.ReadTo.{readingOf, ReadTo, pieceOn};
 
 // How far the input is read: how many bytes of a line are held, the line's number, and the records before it.
-pub struct Place {
+pub struct Progress {
     pub held: usize,
-    pub number: u64,
+    pub nth: u64,
     pub table: [Record; 16],
 }
 
 // Opens sixteen records, before the first line.
-pub fn opened(store: &mut [u8]) -> Place
+pub fn opened(store: &mut [u8]) -> Progress
     requires { ⌜ length (now store) ≡ 65536 ⌝ }
     ensures { λ r. ⌜ ((line : List ℕ) → ReadTo begun line r (now (store .exit))) ⌝ }
 {
@@ -26,23 +26,23 @@ pub fn opened(store: &mut [u8]) -> Place
     let rs = [e; 16];
     let told = windgusset::open_sixteen(rs, store);
     let table = told.table;
-    Place {
+    Progress {
         held: 0,
-        number: 1,
+        nth: 1,
         table,
     }
 }
 
 // Some bytes more of a line.
-fn hold(line: &mut [u8], place: Place, bs: &[u8]) -> Place
-    requires { ⌜ (length (now line) ≡ 8211) × (place .held ≤ 8211) ⌝ }
-    ensures { λ r. ⌜ ((store : List ℕ) → ReadTo (holdOn (readingOf (now (line .entry)) place store) (now (bs .entry))) (now (line .exit)) r store) ⌝ }
+fn hold(line: &mut [u8], progress: Progress, bs: &[u8]) -> Progress
+    requires { ⌜ (length (now line) ≡ 8211) × (progress .held ≤ 8211) ⌝ }
+    ensures { λ r. ⌜ ((store : List ℕ) → ReadTo (holdOn (readingOf (now (line .entry)) progress store) (now (bs .entry))) (now (line .exit)) r store) ⌝ }
 {
-    let n = lines::hold_all(line, place.held, bs);
-    let table = place.table;
-    Place {
+    let n = lines::hold_all(line, progress.held, bs);
+    let table = progress.table;
+    Progress {
         held: n,
-        number: place.number,
+        nth: progress.nth,
         table,
     }
 }
@@ -55,16 +55,16 @@ fn next_number(n: u64) -> u64
 }
 
 // The line that is held is run, and the next begins.
-fn end_line(line: &[u8], store: &mut [u8], place: Place, more: bool) -> Place
-    ensures { λ r. ⌜ ReadTo (lineOn (readingOf (now (line .entry)) place (now (store .entry)))) (now (line .entry)) r (now (store .exit)) ⌝ }
+fn end_line(line: &[u8], store: &mut [u8], progress: Progress, more: bool) -> Progress
+    ensures { λ r. ⌜ ReadTo (lineOn (readingOf (now (line .entry)) progress (now (store .entry)))) (now (line .entry)) r (now (store .exit)) ⌝ }
 {
-    let n = place.held;
-    let number = place.number;
-    let rs = place.table;
-    let table = printed::run_line(rs, store, part::part_of(line, 0, n), number, more);
-    Place {
+    let n = progress.held;
+    let nth = progress.nth;
+    let rs = progress.table;
+    let table = printed::run_line(rs, store, part::part_of(line, 0, n), nth, more);
+    Progress {
         held: 0,
-        number: next_number(number),
+        nth: next_number(nth),
         table,
     }
 }
@@ -73,16 +73,16 @@ fn end_line(line: &[u8], store: &mut [u8], place: Place, more: bool) -> Place
 fn take(
     line: &mut [u8],
     store: &mut [u8],
-    place: Place,
+    progress: Progress,
     bs: &[u8],
     ended: bool,
     more: bool,
-) -> Place
-    requires { ⌜ (length (now line) ≡ 8211) × (place .held ≤ 8211) ⌝ }
-    ensures { λ r. ⌜ ReadTo (pieceOn (readingOf (now (line .entry)) place (now (store .entry))) (now (bs .entry)) ended)
+) -> Progress
+    requires { ⌜ (length (now line) ≡ 8211) × (progress .held ≤ 8211) ⌝ }
+    ensures { λ r. ⌜ ReadTo (pieceOn (readingOf (now (line .entry)) progress (now (store .entry))) (now (bs .entry)) ended)
         (now (line .exit)) r (now (store .exit)) ⌝ }
 {
-    let p = hold(line, place, bs);
+    let p = hold(line, progress, bs);
     if ended {
         return end_line(line, store, p, more);
     }
@@ -90,12 +90,18 @@ fn take(
 }
 
 // A chunk of the input.
-pub fn take_all(line: &mut [u8], store: &mut [u8], place: Place, chunk: &[u8], more: bool) -> Place
-    requires { ⌜ (length (now line) ≡ 8211) × (place .held ≤ 8211) ⌝ }
-    ensures { λ r. ⌜ ReadTo (readOn (readingOf (now (line .entry)) place (now (store .entry))) (now (chunk .entry)))
+pub fn take_all(
+    line: &mut [u8],
+    store: &mut [u8],
+    progress: Progress,
+    chunk: &[u8],
+    more: bool,
+) -> Progress
+    requires { ⌜ (length (now line) ≡ 8211) × (progress .held ≤ 8211) ⌝ }
+    ensures { λ r. ⌜ ReadTo (readOn (readingOf (now (line .entry)) progress (now (store .entry))) (now (chunk .entry)))
         (now (line .exit)) r (now (store .exit)) ⌝ }
 {
-    let mut p = place;
+    let mut p = progress;
     let mut at = 0;
     while at < chunk.len() {
         let piece = lines::piece_at(chunk, at);

@@ -14,20 +14,20 @@ pub fn run(more: bool) {
     let mut bodies = [0u8; 65536];
     let store: &mut [u8] = &mut bodies;
     io::write_all(STDOUT_FILENO, b"publish bench\n");
-    let mut place = reading::opened(store);
+    let mut progress = reading::opened(store);
     let mut turns = u64::MAX;
     while turns > 0 {
         let got = io::read_full(STDIN_FILENO, chunk);
         if got == 0 {
             break;
         }
-        let next = reading::take_all(line, store, place, part::part_of(chunk, 0, got), more);
-        place = next;
+        let next = reading::take_all(line, store, progress, part::part_of(chunk, 0, got), more);
+        progress = next;
         turns -= 1;
     }
-    let n = place.held;
+    let n = progress.held;
     if 0 < n {
-        let rs = place.table;
-        printed::run_line(rs, store, part::part_of(line, 0, n), place.number, more);
+        let rs = progress.table;
+        printed::run_line(rs, store, part::part_of(line, 0, n), progress.nth, more);
     }
 }

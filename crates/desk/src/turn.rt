@@ -18,7 +18,7 @@ pub struct Turn {
 // Puts what is printed for a line to the front of a page: the line of the listing, or the witness's in its place where more is asked for.
 pub fn line_turn(
     page: &mut [u8],
-    number: u64,
+    nth: u64,
     rs: [Record; 16],
     store: &mut [u8],
     answer: &mut [u8],
@@ -26,14 +26,14 @@ pub fn line_turn(
     more: bool,
 ) -> Turn
     requires { ⌜ (103 ≤ length (now page)) × (length (now answer) ≡ 4608) ⌝ }
-    ensures { λ r. ⌜ Turned more rs (now (store .entry)) (now (answer .entry)) (now (line .entry)) (now (page .entry)) number
+    ensures { λ r. ⌜ Turned more rs (now (store .entry)) (now (answer .entry)) (now (line .entry)) (now (page .entry)) nth
         r (now (store .exit)) (now (answer .exit)) (now (page .exit)) ⌝ }
 {
     let s = step::line_step(rs, store, answer, line);
     let table = s.table;
     let shown = s.shown;
     let told = readout::line_told(table, store, line, shown, more);
-    let end = shown::put_line(page, number, told);
+    let end = shown::put_line(page, nth, told);
     Turn {
         table,
         length: s.length,

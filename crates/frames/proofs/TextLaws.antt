@@ -10,7 +10,7 @@ use Rattle.publish.specs.declared.Field.{Field}
 use Rattle.publish.specs.declared.Field.the-variants.{Nothing, Allow, AllowEvents, MinExpires, Accept, RetryAfter}
 use Rattle.publish.specs.declared.Outcome.{Outcome}
 use Rattle.publish.specs.declared.Outcome.the-variants.{Silent, Refused, Granted}
-use Rattle.table.specs.declared.Shown.{Shown as Place}
+use Rattle.table.specs.declared.Shown.{Shown as Lying}
 use Rattle.table.specs.declared.Shown.the-variants.{Stored, Default, Front}
 use Rattle.listing.specs.Listing.{fieldText, outcomeText}
 use Rattle.listing.specs.Witness.{placeText, readText}
@@ -36,7 +36,7 @@ outcome-most (Refused status field) = simp length-append (omega (arith, decimal-
 outcome-most (Granted tag time) = simp length-append (omega (arith, eight-length tag, decimal-twenty time))
 
 -- where what is shown lies is at most 47
-place-most : (n : ℕ) (s : Place) → length (placeText n s) ≤ 47
+place-most : (n : ℕ) (s : Lying) → length (placeText n s) ≤ 47
 unfolding placeText
 place-most n (Stored from size) = simp length-append (omega (arith, decimal-twenty from, decimal-twenty size))
 place-most n Default = omega (arith, length-append (bytes "default ") (decimalOf n), decimal-twenty n)

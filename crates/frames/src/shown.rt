@@ -82,11 +82,11 @@ fn put_shown(buf: &mut [u8], at: usize, s: Shown) -> usize
 }
 
 // Puts a line of the listing: its number, and what is shown.
-pub fn put_line(buf: &mut [u8], number: u64, s: Shown) -> usize
+pub fn put_line(buf: &mut [u8], nth: u64, s: Shown) -> usize
     requires { ⌜ 103 ≤ length (now buf) ⌝ }
-    ensures { λ r. ⌜ Wrote (now (buf .entry)) 0 (lineText number s) (now (buf .exit)) r ⌝ }
+    ensures { λ r. ⌜ Wrote (now (buf .entry)) 0 (lineText nth s) (now (buf .exit)) r ⌝ }
 {
-    let p = text::digits::put_decimal(buf, 0, number);
+    let p = text::digits::put_decimal(buf, 0, nth);
     let q = text::put::put(buf, p, b" ");
     let e = put_shown(buf, q, s);
     text::put::put(buf, e, b"\n")

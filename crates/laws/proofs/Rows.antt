@@ -1,5 +1,5 @@
 -- The laws of a list of refusals: where none is given, none applied, and the other way round; and of two lists in a row, which one decides.
-use mathlib.Core.Path.{_≡_, refl, sym, _∙_}
+use mathlib.Core.Path.{_≡_, refl, sym, _∙_, ap}
 use mathlib.Core.Bool.{Bool, true, false, not, true≢false}
 use mathlib.Core.List.{List, [], _∷_, _++_}
 use Prim.Native.Nat.{ℕ, zero, suc}
@@ -36,32 +36,11 @@ module _ {A : Type 0} where
   none-applies [] other f = refl
   none-applies (r ∷ rs) other f = rw (f 0) (none-applies rs other (λ k. f (suc k)))
 
-  -- of rows in front of others: where what they give with a pass behind them is no pass, one of them applies, and gives it
-  pub front-decides : (f : A → Bool) (rows more : List (Row A)) (pass other : A) → f pass ≡ true → f (firstOf rows pass) ≡ false
-      → firstOf rows pass ≡ firstOf (rows ++ more) other
+  -- rows behind others are tried where none of the others applies
+  pub first-append : (rows more : List (Row A)) (other : A) → firstOf rows (firstOf more other) ≡ firstOf (rows ++ more) other
   unfolding firstOf
-  front-decides f [] more pass other p h = absurd (true≢false (sym p ∙ h))
-  front-decides f (r ∷ rs) more pass other p h = go (r .applies) h (front-decides f rs more pass other p)
-    where
-      go : (b : Bool) → f (pick b (r .gives) (firstOf rs pass)) ≡ false
-          → (f (firstOf rs pass) ≡ false → firstOf rs pass ≡ firstOf (rs ++ more) other)
-          → pick b (r .gives) (firstOf rs pass) ≡ pick b (r .gives) (firstOf (rs ++ more) other)
-      go true h rest = refl
-      go false h rest = rest h
-
-  -- and where it is a pass, which none of them gives, none of them applies, and the others decide
-  pub rest-decides : (f : A → Bool) (rows more : List (Row A)) (pass other : A) → every (λ r. not (f (r .gives))) rows ≡ true
-      → f (firstOf rows pass) ≡ true → firstOf more other ≡ firstOf (rows ++ more) other
-  unfolding firstOf
-  rest-decides f [] more pass other e h = refl
-  rest-decides f (r ∷ rs) more pass other e h =
-      go (r .applies) h (rest-decides f rs more pass other (every-tail (λ r. not (f (r .gives))) r rs e))
-    where
-      go : (b : Bool) → f (pick b (r .gives) (firstOf rs pass)) ≡ true
-          → (f (firstOf rs pass) ≡ true → firstOf more other ≡ firstOf (rs ++ more) other)
-          → firstOf more other ≡ pick b (r .gives) (firstOf (rs ++ more) other)
-      go true h rest = absurd (true≢false (sym h ∙ not-true (f (r .gives)) (every-head (λ r. not (f (r .gives))) r rs e)))
-      go false h rest = rest h
+  first-append [] more other = refl
+  first-append (r ∷ rs) more other = ap (pick (r .applies) (r .gives)) (first-append rs more other)
 
 -- where rows of numbers other than 0 come to 0, no row applied
 pub none-refused : (rows : List (Row ℕ)) → every (λ r. not (eqb (r .gives) 0)) rows ≡ true → firstOf rows 0 ≡ 0

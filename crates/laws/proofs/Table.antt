@@ -1,17 +1,13 @@
 -- A table that lists what a rule gives at 0, 1, 2 and so on holds the rule at each of its places. That a table written out is such
 -- a list is computed, once, and so is that two rules give the same list.
 use mathlib.Core.Path.{_≡_, sym, _∙_, ap}
-use mathlib.Core.List.{List, [], _∷_}
+use mathlib.Core.List.{List}
 use Prim.Native.Nat.{ℕ, zero, suc, _+_, _<_}
 use native.Mathlib.Nat.{add-zero, zero-add, add-suc, suc-add, le-of-suc-le-suc, not-suc-le-zero}
 use lib.ListN.{getD}
+use Rattle.laws.specs.Lists.{listed}
 
 module _ {A : Type 0} where
-  -- what the rule gives at n numbers, from i on
-  abbrev pub listed : (ℕ → A) → ℕ → ℕ → List A
-  listed f i zero = []
-  listed f i (suc n) = f i ∷ listed f (suc i) n
-
   from : (f : ℕ → A) (d : A) (n i k : ℕ) → k < n → getD (listed f i n) k d ≡ f (i + k)
   from f d zero i k h = absurd (not-suc-le-zero h)
   from f d (suc n) i zero h = ap f (sym (add-zero i))

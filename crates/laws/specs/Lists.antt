@@ -54,3 +54,8 @@ same (x ∷ xs) (y ∷ ys) = let r = same xs ys in pick (eqb x y) r false
 unfoldable pub empty : {A : Type 0} → List A → Bool
 empty [] = true
 empty (x ∷ xs) = false
+
+-- what a rule gives at n numbers, from i on
+abbrev pub listed : {A : Type 0} → (ℕ → A) → ℕ → ℕ → List A
+listed f i zero = []
+listed f i (suc n) = f i ∷ listed f (suc i) n

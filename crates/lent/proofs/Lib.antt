@@ -1,2 +1,4 @@
 pub mod Rec
+pub mod LookRow
 pub mod SixteenLaws
+pub mod LookLaws

@@ -1,9 +1,13 @@
-// The lent slice of records: one taken out by value, sixteen gathered, one put back. These are the functions that walk it.
+// The lent slice of records: one taken out by value, sixteen looked at, one put back. These are the functions that walk it.
+pub mod look;
+
+use look::Look;
 use record::Record;
 ghost use mathlib.Core.Path.{_≡_};
-ghost use lib.ListN.{length, set};
+ghost use lib.ListN.{set};
 ghost use Rattle.record.specs.Places.{emptyRecord};
-ghost use Rattle.lent.specs.Sixteen.{recordAt, firstSixteen};
+ghost use Rattle.lent.specs.Sixteen.{recordAt};
+ghost use Rattle.lent.specs.Look.{lookAt, looksOf};
 
 // The all-zero record.
 pub fn empty() -> Record
@@ -21,13 +25,6 @@ pub fn empty() -> Record
     }
 }
 
-// The number of records.
-pub fn count(t: &[Record]) -> usize
-    ensures { λ r. ⌜ r ≡ length (now (t .entry)) ⌝ }
-{
-    t.len()
-}
-
 // Record i, by value; the all-zero record past the end.
 pub fn record_or_empty(t: &[Record], i: usize) -> Record
     ensures { λ r. ⌜ r ≡ recordAt (now (t .entry)) i ⌝ }
@@ -38,27 +35,37 @@ pub fn record_or_empty(t: &[Record], i: usize) -> Record
     empty()
 }
 
-// The first sixteen records, by value, with the all-zero record past the end.
-pub fn gathered(t: &[Record]) -> [Record; 16]
-    ensures { λ r. ⌜ r ≡ firstSixteen (now (t .entry)) ⌝ }
+// The look at record i; at the all-zero record past the end.
+pub fn look_or_none(t: &[Record], i: usize) -> Look
+    ensures { λ l. ⌜ l ≡ lookAt (now (t .entry)) i ⌝ }
+{
+    if i < t.len() {
+        return look::look_of(t[i]);
+    }
+    look::no_look()
+}
+
+// The looks at the first sixteen records, at the all-zero record past the end.
+pub fn looked(t: &[Record]) -> [Look; 16]
+    ensures { λ ls. ⌜ ls ≡ looksOf (now (t .entry)) ⌝ }
 {
     [
-        record_or_empty(t, 0),
-        record_or_empty(t, 1),
-        record_or_empty(t, 2),
-        record_or_empty(t, 3),
-        record_or_empty(t, 4),
-        record_or_empty(t, 5),
-        record_or_empty(t, 6),
-        record_or_empty(t, 7),
-        record_or_empty(t, 8),
-        record_or_empty(t, 9),
-        record_or_empty(t, 10),
-        record_or_empty(t, 11),
-        record_or_empty(t, 12),
-        record_or_empty(t, 13),
-        record_or_empty(t, 14),
-        record_or_empty(t, 15),
+        look_or_none(t, 0),
+        look_or_none(t, 1),
+        look_or_none(t, 2),
+        look_or_none(t, 3),
+        look_or_none(t, 4),
+        look_or_none(t, 5),
+        look_or_none(t, 6),
+        look_or_none(t, 7),
+        look_or_none(t, 8),
+        look_or_none(t, 9),
+        look_or_none(t, 10),
+        look_or_none(t, 11),
+        look_or_none(t, 12),
+        look_or_none(t, 13),
+        look_or_none(t, 14),
+        look_or_none(t, 15),
     ]
 }
 

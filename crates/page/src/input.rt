@@ -80,7 +80,7 @@ pub fn decode(line: &[u8], most: usize, out: &mut [u8]) -> Decoded {
 // How far a line has been read: how many of its bytes are held, and its number.
 pub struct Held {
     pub length: usize,
-    pub number: u64,
+    pub nth: u64,
 }
 
 // The front of a line's buffer that is held.
@@ -95,7 +95,7 @@ pub fn hold(line: &mut [u8], held: Held, b: u8) -> Held {
         line[n] = b;
         return Held {
             length: n + 1,
-            number: held.number,
+            nth: held.nth,
         };
     }
     held
@@ -103,12 +103,12 @@ pub fn hold(line: &mut [u8], held: Held, b: u8) -> Held {
 
 // Where the line behind this one begins.
 pub fn next_line(held: Held) -> Held {
-    let n = held.number;
+    let n = held.nth;
     if n == 18446744073709551615 {
         return held;
     }
     Held {
         length: 0,
-        number: n + 1,
+        nth: n + 1,
     }
 }

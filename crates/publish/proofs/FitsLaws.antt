@@ -20,10 +20,10 @@ use Rattle.request.specs.declared.Line.{Line}
 use Rattle.request.specs.declared.Head.{Head}
 use Rattle.request.specs.declared.ToValue.{ToValue}
 use Rattle.request.specs.declared.ToValue.the-variants.{Tagged, Untagged, Unclosed}
-use Rattle.request.specs.HeaderLines.{bareLine, wholeLine, copied, valueOf}
+use Rattle.request.specs.HeaderLines.{bareLine, wholeLine, copied}
 use Rattle.request.specs.Names.{To}
 use Rattle.request.specs.To.{toValue}
-use Rattle.request.specs.Head.{linesOf, linesNamed, headOf, seenAt, once, isReadable}
+use Rattle.request.specs.Head.{linesOf, linesNamed, headOf, seenAt, once, valueNamed, isReadable}
 use Rattle.request.proofs.BoundLaws.{copied-short}
 use Rattle.publish.specs.declared.Field.{Field}
 use Rattle.publish.specs.declared.Field.the-variants.{Nothing, Allow, AllowEvents, MinExpires, Accept, RetryAfter}
@@ -120,8 +120,8 @@ module _ (s : List ℕ) (number : ℕ) where
   pub to-fits : {h : Head} → h ≡ headOf s → once To h ≡ true
       → length (toLines s number (linesNamed To s (linesOf s))) ≤ length (copied s (linesNamed To s (linesOf s))) + 15
   to-fits {h} e o =
-      rw (only-tagged s e To (omega arith) o refl number, only-copied s e To (omega arith) o refl)
-      (tagged-fits (toValue (valueOf s (seenAt To h .line))) s number (seenAt To h .line))
+      rw (only-tagged s e To (omega arith) o refl number refl, only-copied s e To (omega arith) o refl)
+      (tagged-fits (toValue (valueNamed To s h)) s number (seenAt To h .line))
 
   -- so the lines of a readable request that are repeated are at most 15 bytes longer than the request
   pub echoed-fits : isReadable s (headOf s) ≡ true → length (echoed s (linesOf s) number) ≤ length s + 15

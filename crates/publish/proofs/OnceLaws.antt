@@ -14,6 +14,7 @@ use Rattle.request.specs.declared.FirstLine.the-variants.{Read, Broken}
 use Rattle.request.specs.declared.Line.{Line}
 use Rattle.request.specs.declared.Seen.{Seen}
 use Rattle.request.specs.declared.Head.{Head}
+use Rattle.request.specs.declared.ToValue.{ToValue}
 use Rattle.request.specs.FirstLine.{firstLine}
 use Rattle.request.specs.HeaderLines.{valueOf, wholeLine, copied, Headers, headers, unreadable, headerLines}
 use Rattle.request.specs.Names.{Via, From, To, Call-ID, CSeq}
@@ -58,9 +59,10 @@ module _ (s : List ℕ) {h : Head} (head : h ≡ headOf s) (n : ℕ) (k : n < 10
   only-copied = rw only-line (append-nil (wholeLine s (f .line)))
 
   -- and with a tag, where it has none
-  pub only-tagged : (number : ℕ) → toLines s number (linesNamed n s (linesOf s)) ≡ taggedLine (toValue (valueOf s (f .line))) s number (f .line)
-  unfolding toLines
-  only-tagged number = rw only-line (append-nil (taggedLine (toValue (valueOf s (f .line))) s number (f .line)))
+  pub only-tagged : (number : ℕ) {to : ToValue} → to ≡ toValue (valueNamed n s h)
+      → toLines s number (linesNamed n s (linesOf s)) ≡ taggedLine to s number (f .line)
+  unfolding toLines valueNamed
+  only-tagged number t = rw (only-line, t, ← seen) (append-nil (taggedLine (toValue (valueOf s (f .line))) s number (f .line)))
 
   -- its CR LF stands within the request
   pub only-within : f .line .end + 2 ≤ length s

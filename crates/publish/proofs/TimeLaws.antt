@@ -1,4 +1,4 @@
--- The laws of the times: what Expires says fits 32 bits, and the time granted is one of the two that are compared.
+-- The laws of the times: what Expires says fits 32 bits, and the smaller of two times is one of them.
 use mathlib.Core.Path.{_≡_}
 use mathlib.Core.List.{List}
 use Prim.Native.Nat.{ℕ, _<_, _≤_}
@@ -10,9 +10,7 @@ use Rattle.request.specs.Head.{valueNamed}
 use Rattle.request.specs.Fields.{expires}
 use Rattle.request.specs.declared.Head.{Head}
 use Rattle.request.proofs.FieldLaws.{value-most}
-use Rattle.record.specs.Packages.{packageAt}
 use Rattle.record.specs.Places.{smaller}
-use Rattle.publish.specs.Refusals.{eventOf, requested, granted}
 
 -- Expires says no more than its bound
 pub expires-most : (s : List ℕ) (h : Head) (n : ℕ) → expires s h ≡ Value n → n ≤ 4294967295
@@ -20,23 +18,11 @@ unfolding expires valueOr
 expires-most s h n e = rw e at (value-most 4294967295 (valueNamed Expires s h))
 
 -- the smaller of two numbers is the first where that is below the second
-first-smaller : (a b : ℕ) → a < b → a ≡ smaller a b
+pub first-smaller : (a b : ℕ) → a < b → a ≡ smaller a b
 unfolding smaller
 first-smaller a b l = rw (lt-ltb a b l)
 
 -- and otherwise the second
-second-smaller : (a b : ℕ) → b ≤ a → b ≡ smaller a b
+pub second-smaller : (a b : ℕ) → b ≤ a → b ≡ smaller a b
 unfolding smaller
 second-smaller a b l = rw (le-ltb a b l)
-
-module _ (s : List ℕ) (h : Head) {asked event most : ℕ} (a : asked ≡ requested s h) (e : event ≡ eventOf s h)
-    (m : most ≡ packageAt event .most) where
-  -- the time asked for is granted where it is below the most
-  pub asked-granted : asked < most → asked ≡ granted s h
-  unfolding granted
-  asked-granted l = rw (← a, ← e, ← m) (first-smaller asked most l)
-
-  -- and otherwise the most
-  pub most-granted : most ≤ asked → most ≡ granted s h
-  unfolding granted
-  most-granted l = rw (← a, ← e, ← m) (second-smaller asked most l)

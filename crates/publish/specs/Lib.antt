@@ -3,3 +3,5 @@ pub mod Refusals
 pub mod Message
 pub mod Step
 pub mod All
+pub mod Refusal
+pub mod Asked

@@ -1,10 +1,12 @@
-// The package of a request, the time that it asks for and is granted, and the slot that it presents.
-use record::Record;
+// The package of a request, and the time that it asks for and is granted.
 use request::Head;
 use request::fields;
+use request::names;
 use text::number::Num;
 ghost use mathlib.Core.Path.{_≡_};
-ghost use Rattle.publish.specs.Refusals.{eventOf, requested, granted, presented};
+ghost use Rattle.record.specs.Packages.{packageAt};
+ghost use Rattle.record.specs.Places.{smaller};
+ghost use Rattle.publish.specs.Refusals.{eventOf, requested};
 
 // The number of the request's package; 3 where it is not listed.
 pub fn event_of(s: &[u8], h: Head) -> u8
@@ -13,12 +15,13 @@ pub fn event_of(s: &[u8], h: Head) -> u8
     record::packages::package_named(fields::event_text(s, h))
 }
 
-// The time requested: Expires, or the default without it.
-pub fn requested_time(s: &[u8], h: Head) -> u32
+// The time requested of the package: Expires, or the default without it.
+pub fn requested_time(event: u8, s: &[u8], h: Head) -> u32
+    requires { ⌜ event ≡ eventOf (now s) h ⌝ }
     ensures { λ r. ⌜ r ≡ requested (now (s .entry)) h ⌝ }
 {
-    if fields::is_absent(h, 8) {
-        return record::packages::default_of(event_of(s, h));
+    if fields::is_absent(h, names::EXPIRES) {
+        return record::packages::default_of(event);
     }
     match fields::expires_of(s, h) {
         Num::Value(n) => n as u32,
@@ -26,21 +29,13 @@ pub fn requested_time(s: &[u8], h: Head) -> u32
     }
 }
 
-// The time granted: the smaller of that and the most.
-pub fn granted_time(s: &[u8], h: Head) -> u32
-    ensures { λ r. ⌜ r ≡ granted (now (s .entry)) h ⌝ }
+// The time granted: the smaller of that and the package's most.
+pub fn granted_time(event: u8, requested: u32) -> u32
+    ensures { λ r. ⌜ r ≡ smaller requested (packageAt event .most) ⌝ }
 {
-    let asked = requested_time(s, h);
-    let most = record::packages::most_of(event_of(s, h));
-    if asked < most {
-        return asked;
+    let most = record::packages::most_of(event);
+    if requested < most {
+        return requested;
     }
     most
-}
-
-// The slot of the live publication that the request presents; 8 where none has that tag.
-pub fn presented_slot(r: Record, clock: u64, s: &[u8], h: Head) -> usize
-    ensures { λ k. ⌜ k ≡ presented r clock (now (s .entry)) h ⌝ }
-{
-    record::slots::matching_slot(r, clock, event_of(s, h), fields::match_text(s, h))
 }

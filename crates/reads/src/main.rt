@@ -8,6 +8,7 @@ use page::output;
 use request::Head;
 use request::ToValue;
 use request::fields;
+use request::names;
 use text::number::Num;
 
 // Puts a space and a text in hex.
@@ -60,7 +61,7 @@ fn put_length(out: &mut [u8], at: usize, s: &[u8], h: Head) -> usize {
 
 // Puts what Expires says.
 fn put_expires(out: &mut [u8], at: usize, s: &[u8], h: Head) -> usize {
-    if fields::is_absent(h, 8) {
+    if fields::is_absent(h, names::EXPIRES) {
         return output::bytes(out, at, b" absent");
     }
     if !fields::expires_fits(s, h) {
@@ -91,15 +92,16 @@ fn put_body(out: &mut [u8], at: usize, s: &[u8], h: Head) -> usize {
     if !fields::content_length_fits(s, h) {
         return output::bytes(out, at, b" -");
     }
-    put_text(out, at, fields::body_of(s, h))
+    let n = fields::body_length(s, h);
+    put_text(out, at, fields::body_of(s, h, n))
 }
 
 // Puts method, Request-URI, the names, and what To says.
-fn put_front(out: &mut [u8], at: usize, s: &[u8], h: Head) -> usize {
+fn put_front(out: &mut [u8], at: usize, s: &[u8], h: Head, to: ToValue) -> usize {
     let p1 = put_text(out, at, fields::method_of(s, h));
     let p2 = put_text(out, p1, fields::uri_of(s, h));
     let p3 = put_times(out, p2, h);
-    put_to(out, p3, request::to::to_value(fields::value_named(s, h, 2)))
+    put_to(out, p3, to)
 }
 
 // Puts what CSeq, Content-Length and Expires say.
@@ -115,7 +117,7 @@ fn put_back(out: &mut [u8], at: usize, s: &[u8], h: Head) -> usize {
     let p2 = put_text(
         out,
         p1,
-        text::runs::up_to_parameter(fields::value_named(s, h, 5)),
+        text::runs::up_to_parameter(fields::value_named(s, h, names::CONTENT_TYPE)),
     );
     let p3 = put_match(out, p2, s, h);
     put_body(out, p3, s, h)
@@ -124,21 +126,22 @@ fn put_back(out: &mut [u8], at: usize, s: &[u8], h: Head) -> usize {
 // Puts what a request says.
 fn put_request(out: &mut [u8], at: usize, s: &[u8]) -> usize {
     let h = request::reading::read_head(s);
-    if !fields::is_readable(s, h) {
+    let to = request::to::to_value(fields::value_named(s, h, names::TO));
+    if !fields::is_readable(h, to) {
         return output::bytes(out, at, b" unreadable");
     }
-    let p1 = put_front(out, at, s, h);
+    let p1 = put_front(out, at, s, h, to);
     let p2 = put_numbers(out, p1, s, h);
     put_back(out, p2, s, h)
 }
 
 // Prints what a line says.
-fn print_line(line: &[u8], number: u64) {
+fn print_line(line: &[u8], nth: u64) {
     let mut page = [0u8; 65536];
     let out: &mut [u8] = &mut page;
     let mut bytes = [0u8; 4096];
     let into: &mut [u8] = &mut bytes;
-    let at = output::decimal(out, 0, number);
+    let at = output::decimal(out, 0, nth);
     let end = match input::decode(line, 8192, into) {
         Decoded::Bytes(n) => put_request(out, at, input::held_part(into, n)),
         Decoded::Bad => output::bytes(out, at, b" bad"),
@@ -150,7 +153,7 @@ fn print_line(line: &[u8], number: u64) {
 // A byte more: at LF the line is printed.
 fn take(line: &mut [u8], held: Held, b: u8) -> Held {
     if b == 10 {
-        print_line(input::held_part(line, held.length), held.number);
+        print_line(input::held_part(line, held.length), held.nth);
         return input::next_line(held);
     }
     input::hold(line, held, b)
@@ -172,10 +175,7 @@ fn main() {
     let chunk: &mut [u8] = &mut room;
     let mut space = [0u8; 8193];
     let line: &mut [u8] = &mut space;
-    let mut held = Held {
-        length: 0,
-        number: 1,
-    };
+    let mut held = Held { length: 0, nth: 1 };
     let mut turns = u64::MAX;
     while turns > 0 {
         let got = io::read_full(STDIN_FILENO, chunk);
@@ -186,6 +186,6 @@ fn main() {
         turns -= 1;
     }
     if 0 < held.length {
-        print_line(input::held_part(line, held.length), held.number);
+        print_line(input::held_part(line, held.length), held.nth);
     }
 }

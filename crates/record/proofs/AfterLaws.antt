@@ -152,8 +152,8 @@ module _ (x : Success) (r : Record) (h : Rests x r) where
         listed = h .listed;
         short = pick-holds (λ n. n ≤ 512) (hasBody x) (x .length) (s .length) (h .body-fits) (λ e. f e .short);
         ends = omega (arith, h .time-fits);
-        number-first = pick-holds (λ n. 1 ≤ n) (hasBody x) (r .spent + 1) (s .number) (omega arith) (λ e. f e .number-first);
-        number-last = pick-holds (λ n. n ≤ r .spent + 1) (hasBody x) (r .spent + 1) (s .number) (omega arith) (λ e. omega (arith, f e .number-last));
+        number-first = pick-holds (λ n. 1 ≤ n) (hasBody x) (r .spent + 1) (s .edition) (omega arith) (λ e. f e .number-first);
+        number-last = pick-holds (λ n. n ≤ r .spent + 1) (hasBody x) (r .spent + 1) (s .edition) (omega arith) (λ e. omega (arith, f e .number-last));
         tag-first = omega (arith, new-number);
         tag-last = omega (arith, new-number);
       }
@@ -204,25 +204,25 @@ module _ (x : Success) (r : Record) (h : Rests x r) where
       never k t e = omega (arith, new-number, ap (numberOfTag (r .start)) e, before .each k t .tag-last)
 
   -- a new body number is the number of this success, and without a body the old one stays
-  number-came : (k : ℕ) → IsNew x r k → Came (λ s. s .number) (successNumber r) (writtenSlot x r) (places r) (placesAfter x r) k
+  number-came : (k : ℕ) → IsNew x r k → Came (λ s. s .edition) (successNumber r) (writtenSlot x r) (places r) (placesAfter x r) k
   unfolding written
   number-came k n = go (hasBody x) refl
     where
-      go : (b : Bool) → hasBody x ≡ b → Came (λ s. s .number) (successNumber r) (writtenSlot x r) (places r) (placesAfter x r) k
-      go true e = inl (n .here, ap (λ s. s .number) (n .holds) ∙ rw e)
-      go false e = inr (kept k n e .0, ap (λ s. s .number) (n .holds) ∙ rw (e, kept k n e .1))
+      go : (b : Bool) → hasBody x ≡ b → Came (λ s. s .edition) (successNumber r) (writtenSlot x r) (places r) (placesAfter x r) k
+      go true e = inl (n .here, ap (λ s. s .edition) (n .holds) ∙ rw e)
+      go false e = inr (kept k n e .0, ap (λ s. s .edition) (n .holds) ∙ rw (e, kept k n e .1))
 
   -- the new body number is no other slot's
-  numbers-apart : Apart (λ s. s .number) (placesAfter x r)
+  numbers-apart : Apart (λ s. s .edition) (placesAfter x r)
   unfolding successNumber
   numbers-apart =
-      apart-after (λ s. s .number) (successNumber r) (writtenSlot x r) (places r) (placesAfter x r) came never (before .numbers)
+      apart-after (λ s. s .edition) (successNumber r) (writtenSlot x r) (places r) (placesAfter x r) came never (before .numbers)
     where
       came : (k : ℕ) → placeAt (placesAfter x r) k .taken ≡ true
-          → Came (λ s. s .number) (successNumber r) (writtenSlot x r) (places r) (placesAfter x r) k
-      came k t = ⊎-elim (number-came k) (λ o. inr (was-taken k o, ap (λ p. p .slot .number) (o .stays))) (stands x r k t)
+          → Came (λ s. s .edition) (successNumber r) (writtenSlot x r) (places r) (placesAfter x r) k
+      came k t = ⊎-elim (number-came k) (λ o. inr (was-taken k o, ap (λ p. p .slot .edition) (o .stays))) (stands x r k t)
 
-      never : (k : ℕ) → placeAt (places r) k .taken ≡ true → placeAt (places r) k .slot .number ≡ successNumber r → ⊥
+      never : (k : ℕ) → placeAt (places r) k .taken ≡ true → placeAt (places r) k .slot .edition ≡ successNumber r → ⊥
       never k t e = omega (arith, before .each k t .number-last)
 
   -- a success leaves the record sound

@@ -4,9 +4,10 @@ pub mod PackageLaws
 pub mod MapLaws
 pub mod SlotLaws
 pub mod NewestLaws
-pub mod AddressLaws
 pub mod WalkLaws
 pub mod SoundLaws
+pub mod AddressLaws
+pub mod CompareLaws
 pub mod StoreLaws
 pub mod Cleared
 pub mod FreedLaws

@@ -12,7 +12,8 @@ use lib.ListN.{length, set}
 use borrow.Author.Tests.{eqb-true, eqb-false}
 use Rattle.laws.specs.Choose.{pick}
 use Rattle.laws.specs.Lists.{those, placeOf}
-use Rattle.laws.proofs.Table.{listed, agree}
+use Rattle.laws.specs.Lists.{listed}
+use Rattle.laws.proofs.Table.{agree}
 use Rattle.record.specs.Map.{lowestFreeIn, occupiedIn, hasPlace, withPlace, withoutPlace}
 use Rattle.record.specs.Places.{Place, placesIn, mapOf, lowestFree}
 use Rattle.record.specs.declared.Slot.{Slot}

@@ -3,7 +3,8 @@ use mathlib.Core.Path.{_≡_, sym, _∙_, ap}
 use mathlib.Core.List.{[]}
 use Prim.Native.Nat.{ℕ, _<_, _≤_}
 use lib.ListN.{getD, List·getD-eq-default}
-use Rattle.laws.proofs.Table.{listed, at}
+use Rattle.laws.specs.Lists.{listed}
+use Rattle.laws.proofs.Table.{at}
 use Rattle.record.specs.Packages.{Package, packages, packageAt}
 
 module _ (f : Package → ℕ) (e event : ℕ) (w : e ≡ event) where

@@ -1,19 +1,19 @@
 -- What soundness says of a record, place by place: the test holds exactly where these facts do; and what it asks, one test after the other.
-use mathlib.Core.Path.{_≡_, refl, sym, _∙_, ap}
+use mathlib.Core.Path.{_≡_, refl, sym, _∙_}
 use mathlib.Core.Bool.{Bool, true, false, _&&_, _||_, not, false≢true}
 use mathlib.Core.List.{List}
 use Prim.Native.Nat.{ℕ, _+_, _-_, _%_, _<_, _≤_}
 use native.Mathlib.Omega.{arith}
 use lib.Dec.{eqb, leb}
 use borrow.Author.Tests.{leb-true, leb-false, le-leb, lt-leb}
-use Rattle.laws.specs.Lists.{every, pairwise, those}
+use Rattle.laws.specs.Lists.{every, pairwise}
 use Rattle.laws.proofs.Tests.{and-left, and-right}
 use Rattle.text.specs.Class.{from-to}
 use Rattle.tag.specs.Given.{numberOfTag, isGiven}
 use Rattle.record.specs.Packages.{packageAt, isListed}
 use Rattle.record.specs.Places.{Place, places, occupied}
-use Rattle.record.specs.Address.{addressOf, hasAddress, sameAddress}
-use Rattle.record.specs.Sound.{latestClock, isSoundSlot, tagsDiffer, numbersDiffer, slotsDiffer, isSound, addressesDiffer, allSound}
+use Rattle.record.specs.Address.{hasAddress}
+use Rattle.record.specs.Sound.{latestClock, isSoundSlot, tagsDiffer, numbersDiffer, slotsDiffer, isSound}
 use Rattle.record.specs.declared.Slot.{Slot}
 use Rattle.record.specs.declared.Record.{Record}
 use Rattle.record.proofs.WalkLaws.{pairwise-both}
@@ -24,8 +24,8 @@ pub record SlotHolds (r : Record) (s : Slot) : Type 0 where
   pub listed : isListed (s .event) ≡ true
   pub short : s .length ≤ 512
   pub ends : s .end ≤ r .clock + packageAt (s .event) .most
-  pub number-first : 1 ≤ s .number
-  pub number-last : s .number ≤ r .spent
+  pub number-first : 1 ≤ s .edition
+  pub number-last : s .edition ≤ r .spent
   pub tag-first : 1 ≤ numberOfTag (r .start) (s .tag)
   pub tag-last : numberOfTag (r .start) (s .tag) ≤ r .spent
 
@@ -35,7 +35,7 @@ pub record RecordHolds (r : Record) (ps : List Place) : Type 0 where
   pub in-time : r .clock ≤ latestClock
   pub each : (k : ℕ) → placeAt ps k .taken ≡ true → SlotHolds r (placeAt ps k .slot)
   pub tags : Apart (λ s. s .tag) ps
-  pub numbers : Apart (λ s. s .number) ps
+  pub numbers : Apart (λ s. s .edition) ps
 
 -- a slot that passes the test is so
 slot-found : (r : Record) (s : Slot) → isSoundSlot r s ≡ true → SlotHolds r s
@@ -44,14 +44,14 @@ slot-found r s e =
     let e₁ = and-right (isListed (s .event)) _ e in
     let e₂ = and-right (leb (s .length) 512) _ e₁ in
     let e₃ = and-right (leb (s .end) (r .clock + packageAt (s .event) .most)) _ e₂ in
-    let n = and-left (from-to 1 (r .spent) (s .number)) _ e₃ in
-    let t = and-right (from-to 1 (r .spent) (s .number)) _ e₃ in
+    let n = and-left (from-to 1 (r .spent) (s .edition)) _ e₃ in
+    let t = and-right (from-to 1 (r .spent) (s .edition)) _ e₃ in
     record {
       listed = and-left (isListed (s .event)) _ e;
       short = leb-true _ _ (and-left (leb (s .length) 512) _ e₁);
       ends = leb-true _ _ (and-left (leb (s .end) (r .clock + packageAt (s .event) .most)) _ e₂);
-      number-first = leb-true _ _ (and-left (leb 1 (s .number)) _ n);
-      number-last = leb-true _ _ (and-right (leb 1 (s .number)) _ n);
+      number-first = leb-true _ _ (and-left (leb 1 (s .edition)) _ n);
+      number-last = leb-true _ _ (and-right (leb 1 (s .edition)) _ n);
       tag-first = leb-true _ _ (and-left (leb 1 (numberOfTag (r .start) (s .tag))) _ t);
       tag-last = leb-true _ _ (and-right (leb 1 (numberOfTag (r .start) (s .tag))) _ t);
     }
@@ -88,7 +88,7 @@ sound-found r u e =
       in-time = leb-true _ _ (and-left (leb (r .clock) latestClock) _ e₁);
       each = λ k t. slot-found r _ (each-found (isSoundSlot r) (places r) (and-left (every (isSoundSlot r) (occupied r)) _ e₂) k t);
       tags = apart-found (λ s. s .tag) (places r) (and-left (pairwise tagsDiffer (occupied r)) _ e₃);
-      numbers = apart-found (λ s. s .number) (places r) (and-right (pairwise tagsDiffer (occupied r)) _ e₃);
+      numbers = apart-found (λ s. s .edition) (places r) (and-right (pairwise tagsDiffer (occupied r)) _ e₃);
     }
 
 -- a record that is so passes the test
@@ -101,7 +101,7 @@ sound-tested r ps e h =
       le-leb _ _ (h .in-time),
       each-tested (isSoundSlot r) ps (λ k t. slot-tested r _ (h .each k t)),
       apart-tested (λ s. s .tag) ps (h .tags),
-      apart-tested (λ s. s .number) ps (h .numbers),
+      apart-tested (λ s. s .edition) ps (h .numbers),
     ) (either (not (r .used)))
   where
     either : (b : Bool) → (b || true) ≡ true
@@ -122,7 +122,7 @@ in-time-left end clock most h = go (leb end (clock + most)) refl
 
 -- what is asked of a slot, one test after the other
 pub slot-asked : (r : Record) (s : Slot) {a b c d : Bool} → isListed (s .event) ≡ a → leb (s .length) 512 ≡ b
-    → leb (s .end) (r .clock + packageAt (s .event) .most) ≡ c → from-to 1 (r .spent) (s .number) ≡ d
+    → leb (s .end) (r .clock + packageAt (s .event) .most) ≡ c → from-to 1 (r .spent) (s .edition) ≡ d
     → isSoundSlot r s ≡ (a && (b && (c && (d && isGiven (r .start) (r .spent) (s .tag)))))
 unfolding isSoundSlot
 slot-asked r s p q t u = rw (p, q, t, u)
@@ -139,7 +139,7 @@ differs s t = tagsDiffer s t && numbersDiffer s t
 
 -- what is asked of a slot with another: is it occupied, are the tags the same, are the body numbers
 pub other-slot : (m : ℕ) (s t : Slot) {a b : Bool} → eqb (m % 2) 1 ≡ a → eqb (s .tag) (t .tag) ≡ b
-    → (not (eqb (m % 2) 1) || differs s t) ≡ (not a || (not b && not (eqb (s .number) (t .number))))
+    → (not (eqb (m % 2) 1) || differs s t) ≡ (not a || (not b && not (eqb (s .edition) (t .edition))))
 unfolding tagsDiffer numbersDiffer
 other-slot m s t p q = rw (p, q)
 
@@ -147,17 +147,3 @@ other-slot m s t p q = rw (p, q)
 pub slots-asked : (ss : List Slot) → slotsDiffer ss ≡ pairwise differs ss
 unfolding slotsDiffer
 slots-asked ss = sym (pairwise-both tagsDiffer numbersDiffer ss)
-
--- nothing is asked of an unused record
-pub unused-asked : (r : Record) (t : Bool) {b : Bool} → r .used ≡ b → (not (r .used) || t) ≡ (not b || t)
-unused-asked r t k = ap (λ (b : Bool). not b || t) k
-
--- a record in use has another address where the comparison fails
-pub other-record : (r t : Record) {b : Bool} → t .used ≡ b → (not (t .used) || addressesDiffer r t) ≡ (not b || not (sameAddress (addressOf r) (addressOf t)))
-unfolding addressesDiffer
-other-record r t k = ap (λ (b : Bool). not b || not (sameAddress (addressOf r) (addressOf t))) k
-
--- of all records each is asked by itself, and then the addresses
-pub all-asked : (rs : List Record) {b : Bool} → every isSound rs ≡ b → allSound rs ≡ (b && pairwise addressesDiffer (those (λ r. r .used) rs))
-unfolding allSound
-all-asked rs k = rw k

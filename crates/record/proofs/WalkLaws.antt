@@ -1,19 +1,17 @@
 -- The laws of a question about a list that a loop walks: something is asked of the first element, where that counts, and then the
--- question of the rest. So are the occupied slots of a record walked, and the records in use.
+-- question of the rest. So are the occupied slots of a record walked.
 use mathlib.Core.Path.{_≡_, refl, sym, _∙_, ap}
 use mathlib.Core.Bool.{Bool, true, false, _&&_, _||_, not}
 use mathlib.Core.List.{List, [], _∷_}
 use Prim.Native.Nat.{ℕ, _+_, _/_, _%_, _<_, _≤_}
 use native.Mathlib.Numerals.{add-one}
-use native.Mathlib.Omega.{arith}
 use lib.Dec.{eqb}
-use lib.ListN.{length, getD, take, drop, length-take, drop-of-length-le}
-use lib.Seq.{drop-cons, getD-take, length-take-le}
+use lib.ListN.{length, getD, drop, drop-of-length-le}
+use lib.Seq.{drop-cons}
 use Rattle.laws.specs.Choose.{pick}
 use Rattle.laws.specs.Lists.{every, pairwise, those}
 use Rattle.record.specs.Places.{Place, placesIn, slotsOf}
 use Rattle.record.specs.declared.Slot.{Slot}
-use Rattle.record.specs.declared.Record.{Record}
 use Rattle.record.proofs.Places.{slotsTaken}
 
 -- four tests in another order
@@ -100,42 +98,3 @@ module _ (ss : List Slot) (d : Slot) (m i : ℕ) (h : i < length ss) where
 pub slots-end : (ss : List Slot) (m i : ℕ) → length ss ≤ i → slotsIn m (drop i ss) ≡ []
 unfolding placesIn those slotsOf
 slots-end ss m i h = rw (drop-of-length-le ss h)
-
--- the records in use among the first n, from place i on
-abbrev pub usedIn : ℕ → ℕ → List Record → List Record
-usedIn n i rs = those (λ r. r .used) (drop i (take n rs))
-
-module _ (rs : List Record) (d : Record) (n i : ℕ) (h : i < n) (k : n ≤ length rs) where
-  -- the record at place i is the first of the first n from there on
-  records-from : drop i (take n rs) ≡ getD rs i d ∷ drop (i + 1) (take n rs)
-  records-from =
-      let l : i < length (take n rs) = omega (arith, length-take-le n rs k) in
-      rw (add-one i, drop-cons (take n rs) i d l, getD-take n rs i d h)
-
-  used-from : usedIn n i rs ≡ pick (getD rs i d .used) (getD rs i d ∷ usedIn n (i + 1) rs) (usedIn n (i + 1) rs)
-  unfolding those
-  used-from = ap (those (λ r. r .used)) records-from
-
-  -- is every record so: the one at place i is asked
-  pub each-record : (f : Record → Bool) {a b : Bool} → a ≡ f (getD rs i d) → a ≡ b
-      → every f (drop i (take n rs)) ≡ (b && every f (drop (i + 1) (take n rs)))
-  each-record f e l = every-turn true (getD rs i d) _ _ records-from f (sym e ∙ l)
-
-  -- is every record in use so: the one at place i is asked, where it is in use
-  pub each-used : (f : Record → Bool) {a b : Bool} → a ≡ (not (getD rs i d .used) || f (getD rs i d)) → a ≡ b
-      → every f (usedIn n i rs) ≡ (b && every f (usedIn n (i + 1) rs))
-  each-used f e l = every-turn (getD rs i d .used) (getD rs i d) _ _ used-from f (sym e ∙ l)
-
-  -- are the records in use so pairwise: the one at place i is asked with each that follows
-  pub pair-of-used : (f : Record → Record → Bool) {a b : Bool}
-      → a ≡ (not (getD rs i d .used) || every (f (getD rs i d)) (usedIn n (i + 1) rs)) → a ≡ b
-      → pairwise f (usedIn n i rs) ≡ (b && pairwise f (usedIn n (i + 1) rs))
-  pair-of-used f e l = pairwise-turn (getD rs i d .used) (getD rs i d) _ _ used-from f (sym e ∙ l)
-
--- past the first n there is none
-pub records-end : (rs : List Record) (n i : ℕ) → n ≤ i → drop i (take n rs) ≡ []
-records-end rs n i h = drop-of-length-le (take n rs) {i = i} (omega (arith, length-take n rs))
-
-pub used-end : (rs : List Record) (n i : ℕ) → n ≤ i → usedIn n i rs ≡ []
-unfolding those
-used-end rs n i h = rw (records-end rs n i h)

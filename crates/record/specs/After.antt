@@ -52,7 +52,7 @@ written x r old =
       tag = givenTag r;
       end = x .clock + x .granted;
       length = pick (hasBody x) (x .length) (old .length);
-      number = pick (hasBody x) (successNumber r) (old .number);
+      edition = pick (hasBody x) (successNumber r) (old .edition);
     }
 
 -- granted 0 leaves nothing live: a matched slot is freed, an initial one takes none

@@ -17,7 +17,7 @@ pub record Place : Type 0 where
 
 -- a slot that is freed: its fields are zero
 abbrev pub zeroSlot : Slot
-zeroSlot = record { event = 0; tag = 0; end = 0; length = 0; number = 0 }
+zeroSlot = record { event = 0; tag = 0; end = 0; length = 0; edition = 0 }
 
 abbrev pub freePlace : Place
 freePlace = record { taken = false; slot = zeroSlot }
@@ -93,4 +93,4 @@ isOf clock event p = isLive clock p && eqb (p .slot .event) event
 unfoldable pub newest : ℕ → ℕ → Record → ℕ
 newest clock event r =
     let all = those (isOf clock event) (places r) in
-    placeOf (λ p. isOf clock event p && every (λ o. leb (o .slot .number) (p .slot .number)) all) (places r)
+    placeOf (λ p. isOf clock event p && every (λ o. leb (o .slot .edition) (p .slot .edition)) all) (places r)

@@ -21,13 +21,13 @@ latestClock = 1000000000000
 unfoldable pub isSoundSlot : Record → Slot → Bool
 isSoundSlot r s =
     isListed (s .event) && (leb (s .length) 512 && (leb (s .end) (r .clock + packageAt (s .event) .most)
-    && (from-to 1 (r .spent) (s .number) && isGiven (r .start) (r .spent) (s .tag))))
+    && (from-to 1 (r .spent) (s .edition) && isGiven (r .start) (r .spent) (s .tag))))
 
 unfoldable pub tagsDiffer : Slot → Slot → Bool
 tagsDiffer s t = not (eqb (s .tag) (t .tag))
 
 unfoldable pub numbersDiffer : Slot → Slot → Bool
-numbersDiffer s t = not (eqb (s .number) (t .number))
+numbersDiffer s t = not (eqb (s .edition) (t .edition))
 
 -- tags differ between occupied slots, and so do body numbers
 unfoldable pub slotsDiffer : List Slot → Bool

@@ -6,23 +6,9 @@ ghost use mathlib.Core.Bool.{not};
 ghost use Prim.Native.Nat.{_≤_};
 ghost use lib.Dec.{eqb};
 ghost use lib.ListN.{length, drop};
-ghost use Rattle.laws.specs.Lists.{every};
-ghost use Rattle.text.specs.Runs.{past};
-ghost use Rattle.record.specs.Address.{isAddress, addressOf, padded, hasAddress, sameAddress, isFor};
-
-// Where the first zero stands; the length where there is none.
-fn end_of_address(s: &[u8]) -> usize
-    ensures { λ x. ⌜ x ≡ past (λ b. not (eqb b 0)) (now (s .entry)) 0 ⌝ }
-{
-    let mut i = 0;
-    while i < s.len() {
-        if s[i] == 0 {
-            return i;
-        }
-        i += 1;
-    }
-    i
-}
+ghost use Rattle.laws.specs.Lists.{every, same};
+ghost use Rattle.text.specs.Runs.{front};
+ghost use Rattle.record.specs.Address.{isAddress, padded, hasAddress, sameAddress};
 
 // Whether every byte from a position on is zero.
 fn is_zero_from(s: &[u8], from: usize) -> bool
@@ -66,44 +52,57 @@ pub fn has_address(r: Record) -> bool
     ensures { λ x. ⌜ x ≡ hasAddress r ⌝ }
 {
     let address = r.address;
-    let n = end_of_address(&address);
-    if !is_address(&address[..n]) {
+    let n = text::runs::past_kind(&address, 0, Kind::Visible);
+    if n == 0 {
         return false;
     }
     is_zero_from(&address, n)
 }
 
-// Whether a text is that address.
-fn is_same(a: &[u8], b: &[u8]) -> bool
-    ensures { λ x. ⌜ x ≡ sameAddress (now (a .entry)) (now (b .entry)) ⌝ }
+// Whether a text is the address that a record's 64 bytes hold, up to their first zero.
+pub fn is_held(a: &[u8], held: &[u8]) -> bool
+    ensures { λ x. ⌜ x ≡ sameAddress (now (a .entry)) (front (λ b. not (eqb b 0)) (now (held .entry))) ⌝ }
 {
-    text::runs::are_same(a, b)
-}
-
-// Whether a text is the address of a record.
-fn is_address_of(a: &[u8], r: Record) -> bool
-    ensures { λ x. ⌜ x ≡ sameAddress (now (a .entry)) (addressOf r) ⌝ }
-{
-    let address = r.address;
-    let n = end_of_address(&address);
-    is_same(a, &address[..n])
-}
-
-// Whether two records have the same address.
-pub fn same_address(r: Record, t: Record) -> bool
-    ensures { λ x. ⌜ x ≡ sameAddress (addressOf r) (addressOf t) ⌝ }
-{
-    let address = r.address;
-    let n = end_of_address(&address);
-    is_address_of(&address[..n], t)
-}
-
-// Whether a record is in use for that address.
-pub fn is_for(a: &[u8], r: Record) -> bool
-    ensures { λ x. ⌜ x ≡ isFor (now (a .entry)) r ⌝ }
-{
-    if !r.used {
-        return false;
+    let mut i = 0;
+    while i < a.len() {
+        if held.len() <= i {
+            return false;
+        }
+        let b = held[i];
+        if b == 0 {
+            return false;
+        }
+        if a[i] != b {
+            return false;
+        }
+        i += 1;
     }
-    is_address_of(a, r)
+    if held.len() <= i {
+        return true;
+    }
+    held[i] == 0
+}
+
+// Whether two texts of 64 bytes are the same. It does not stop at the first that differs, so that the compiler can take sixteen at a time.
+fn same_64(a: &[u8], b: &[u8]) -> bool
+    requires { ⌜ length (now a) ≡ 64 ⌝ }
+    requires { ⌜ length (now b) ≡ 64 ⌝ }
+    ensures { λ x. ⌜ x ≡ same (now (a .entry)) (now (b .entry)) ⌝ }
+{
+    let mut alike: u8 = 0;
+    let mut i: usize = 0;
+    while i < 64 {
+        if a[i] == b[i] {
+            alike += 1;
+        }
+        i += 1;
+    }
+    alike == 64
+}
+
+// Whether two addresses have the same 64 bytes.
+pub fn same_bytes(a: &[u8; 64], b: &[u8; 64]) -> bool
+    ensures { λ x. ⌜ x ≡ same (now (a .entry)) (now (b .entry)) ⌝ }
+{
+    same_64(a, b)
 }

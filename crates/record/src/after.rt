@@ -39,7 +39,7 @@ fn written_slot(x: Success, r: Record, old: Slot) -> Slot
             tag,
             end,
             length: old.length,
-            number: old.number,
+            edition: old.edition,
         };
     }
     Slot {
@@ -47,7 +47,7 @@ fn written_slot(x: Success, r: Record, old: Slot) -> Slot
         tag,
         end,
         length: x.length,
-        number: r.spent + 1,
+        edition: r.spent + 1,
     }
 }
 

@@ -8,13 +8,13 @@ pub mod slots;
 pub mod sound;
 pub mod store;
 
-// A slot: package, tag, end clock, body length, and the success number that last set its body.
+// A slot: package, tag, end clock, body length, and the edition of its body (its body number): the success number that last set it.
 pub struct Slot {
     pub event: u8,
     pub tag: u32,
     pub end: u64,
     pub length: u16,
-    pub number: u32,
+    pub edition: u32,
 }
 
 // A record: in use or not, address, start, count of tags spent, clock of the latest success, map of occupied slots.

@@ -17,7 +17,7 @@ pub fn zero_slot() -> Slot
         tag: 0,
         end: 0,
         length: 0,
-        number: 0,
+        edition: 0,
     }
 }
 
@@ -102,22 +102,22 @@ pub fn least_end(r: Record, clock: u64) -> u64
 // The newest publication so far: its slot, 8 where there is none, and its body number.
 struct Best {
     slot: usize,
-    number: u32,
+    edition: u32,
 }
 
 // The newest so far with slot i as well, where that counts: of two with one number the first stays.
-fn better(best: Best, counts: bool, i: usize, number: u32) -> Best
-    ensures { λ b. ⌜ b ≡ pick counts (pick (not (eqb (best .slot) 8) && leb number (best .number)) best (record { slot = i; number = number })) best ⌝ }
+fn better(best: Best, counts: bool, i: usize, edition: u32) -> Best
+    ensures { λ b. ⌜ b ≡ pick counts (pick (not (eqb (best .slot) 8) && leb edition (best .edition)) best (record { slot = i; edition = edition })) best ⌝ }
 {
     if !counts {
         return best;
     }
     if best.slot != 8 {
-        if number <= best.number {
+        if edition <= best.edition {
             return best;
         }
     }
-    Best { slot: i, number }
+    Best { slot: i, edition }
 }
 
 // The slot of that package's live publication with the highest body number; 8 where none is live.
@@ -126,11 +126,14 @@ pub fn newest_slot(r: Record, clock: u64, event: u8) -> usize
 {
     let slots = r.slots;
     let mut m = r.map;
-    let mut best = Best { slot: 8, number: 0 };
+    let mut best = Best {
+        slot: 8,
+        edition: 0,
+    };
     let mut i: usize = 0;
     while i < 8 {
         let s = slots[i];
-        best = better(best, is_of(m % 2 == 1, s, clock, event), i, s.number);
+        best = better(best, is_of(m % 2 == 1, s, clock, event), i, s.edition);
         m = m / 2;
         i += 1;
     }

@@ -1,18 +1,18 @@
-// Soundness of one record and of all lent ones.
+// Soundness of one record.
 use crate::Record;
 use crate::Slot;
 use crate::address;
 use crate::packages;
 ghost use mathlib.Core.Path.{_≡_};
 ghost use mathlib.Core.Bool.{_&&_, _||_, not};
-ghost use Prim.Native.Nat.{_+_, _%_, _/_, _≤_};
+ghost use Prim.Native.Nat.{_+_, _%_, _/_};
 ghost use lib.Dec.{eqb, leb};
-ghost use lib.ListN.{take, drop};
-ghost use Rattle.laws.specs.Lists.{every, pairwise, those};
+ghost use lib.ListN.{drop};
+ghost use Rattle.laws.specs.Lists.{every, those};
 ghost use Rattle.text.specs.Class.{from-to};
 ghost use Rattle.record.specs.Packages.{packageAt};
 ghost use Rattle.record.specs.Places.{placesIn, slotsOf, occupied};
-ghost use Rattle.record.specs.Sound.{isSoundSlot, tagsDiffer, numbersDiffer, slotsDiffer, isSound, addressesDiffer, allSound};
+ghost use Rattle.record.specs.Sound.{isSoundSlot, tagsDiffer, numbersDiffer, slotsDiffer, isSound};
 
 // Whether a slot's end is at most the latest clock plus its package's most.
 fn ends_in_time(clock: u64, s: Slot) -> bool
@@ -26,13 +26,13 @@ fn ends_in_time(clock: u64, s: Slot) -> bool
 }
 
 // Whether a body number is one from 1 to spent.
-fn is_spent(spent: u32, number: u32) -> bool
-    ensures { λ x. ⌜ x ≡ from-to 1 spent number ⌝ }
+fn is_spent(spent: u32, edition: u32) -> bool
+    ensures { λ x. ⌜ x ≡ from-to 1 spent edition ⌝ }
 {
-    if number < 1 {
+    if edition < 1 {
         return false;
     }
-    number <= spent
+    edition <= spent
 }
 
 // Whether a slot is a sound one of a record.
@@ -48,7 +48,7 @@ pub fn is_sound_slot(r: Record, s: Slot) -> bool
     if !ends_in_time(r.clock, s) {
         return false;
     }
-    if !is_spent(r.spent, s.number) {
+    if !is_spent(r.spent, s.edition) {
         return false;
     }
     tag::is_given(r.start, r.spent, s.tag)
@@ -92,7 +92,7 @@ fn is_free_or_other(map: u8, s: Slot, t: Slot) -> bool
     if s.tag == t.tag {
         return false;
     }
-    s.number != t.number
+    s.edition != t.edition
 }
 
 // Whether a slot, with its bit lowest in the map, is free or differs from each occupied one behind it; those begin at `from`.
@@ -150,76 +150,4 @@ pub fn is_sound(r: Record) -> bool
         return false;
     }
     slots_differ(r)
-}
-
-// Whether each of the first n records is sound by itself.
-fn each_sound(rs: [Record; 16], n: usize) -> bool
-    requires { ⌜ n ≤ 16 ⌝ }
-    ensures { λ x. ⌜ x ≡ every isSound (take n rs) ⌝ }
-{
-    let mut i: usize = 0;
-    while i < n {
-        let r = rs[i];
-        if !is_sound(r) {
-            return false;
-        }
-        i += 1;
-    }
-    true
-}
-
-// Whether a record is unused or has another address than a given one.
-fn is_unused_or_other(r: Record, t: Record) -> bool
-    ensures { λ x. ⌜ x ≡ (not (t .used) || addressesDiffer r t) ⌝ }
-{
-    if !t.used {
-        return true;
-    }
-    !address::same_address(r, t)
-}
-
-// Whether a record is unused or has another address than each one in use behind it; those begin at `from`.
-fn is_unused_or_apart(r: Record, rs: [Record; 16], n: usize, from: usize) -> bool
-    requires { ⌜ n ≤ 16 ⌝ }
-    ensures { λ x. ⌜ x ≡ (not (r .used) || every (addressesDiffer r) (those (λ t. t .used) (drop from (take n rs)))) ⌝ }
-{
-    if !r.used {
-        return true;
-    }
-    let mut i = from;
-    while i < n {
-        let t = rs[i];
-        if !is_unused_or_other(r, t) {
-            return false;
-        }
-        i += 1;
-    }
-    true
-}
-
-// Whether the addresses in use among the first n records differ.
-fn addresses_differ(rs: [Record; 16], n: usize) -> bool
-    requires { ⌜ n ≤ 16 ⌝ }
-    ensures { λ x. ⌜ x ≡ pairwise addressesDiffer (those (λ t. t .used) (take n rs)) ⌝ }
-{
-    let mut i: usize = 0;
-    while i < n {
-        let r = rs[i];
-        i += 1;
-        if !is_unused_or_apart(r, rs, n, i) {
-            return false;
-        }
-    }
-    true
-}
-
-// Whether the first n records are sound: each by itself, and no two in use with the same address.
-pub fn all_sound(rs: [Record; 16], n: usize) -> bool
-    requires { ⌜ n ≤ 16 ⌝ }
-    ensures { λ x. ⌜ x ≡ allSound (take n rs) ⌝ }
-{
-    if !each_sound(rs, n) {
-        return false;
-    }
-    addresses_differ(rs, n)
 }

@@ -3,8 +3,7 @@ use Prim.Native.Nat.{ℕ, _+_}
 use mathlib.Core.Bool.{Bool, true, false, _&&_, not}
 use mathlib.Core.List.{List, [], _∷_, map}
 use lib.Dec.{eqb, ltb}
-use lib.ListN.{length, getD, replicate}
-use Rattle.laws.specs.Choose.{pick}
+use lib.ListN.{getD, replicate}
 use Rattle.laws.specs.Lists.{part, those}
 use Rattle.request.specs.FirstLine.{firstLine}
 use Rattle.request.specs.HeaderLines.{Headers, headers, unreadable, headerLines, nameOf, valueOf}

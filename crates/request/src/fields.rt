@@ -3,32 +3,15 @@ use crate::Head;
 use crate::Seen;
 use crate::ToValue;
 use crate::header_line;
-use crate::to;
+use crate::names;
 use text::class::Kind;
 use text::number::Num;
 ghost use mathlib.Core.Path.{_≡_};
+ghost use mathlib.Core.Bool.{_&&_};
 ghost use Prim.Native.Nat.{_<_};
 ghost use Rattle.text.specs.Number.{isFit};
-ghost use Rattle.request.specs.Head.{methodOf, uriOf, seenAt, absent, once, repeated, valueNamed, isClosed, standAsTheyMust, isReadable};
+ghost use Rattle.request.specs.Head.{methodOf, uriOf, seenAt, absent, once, repeated, valueNamed, isClosed, standAsTheyMust};
 ghost use Rattle.request.specs.Fields.{isCSeq, cseqFits, there, contentLength, contentLengthFits, expires, expiresFits, isBadRequest, bodyLength, body, eventText, hasMatch, matchText, isBadMatch};
-
-const FROM: usize = 1;
-
-const TO: usize = 2;
-
-const CALL_ID: usize = 3;
-
-const CSEQ: usize = 4;
-
-const CONTENT_TYPE: usize = 5;
-
-const CONTENT_LENGTH: usize = 6;
-
-const EVENT: usize = 7;
-
-const EXPIRES: usize = 8;
-
-const SIP_IF_MATCH: usize = 9;
 
 // The method.
 pub fn method_of(s: &[u8], h: Head) -> &[u8]
@@ -96,19 +79,19 @@ pub fn value_named(s: &[u8], h: Head, n: usize) -> &[u8]
 pub fn stand_as_they_must(h: Head) -> bool
     ensures { λ r. ⌜ r ≡ standAsTheyMust h ⌝ }
 {
-    if is_absent(h, 0) {
+    if is_absent(h, names::VIA) {
         return false;
     }
-    if !is_once(h, FROM) {
+    if !is_once(h, names::FROM) {
         return false;
     }
-    if !is_once(h, TO) {
+    if !is_once(h, names::TO) {
         return false;
     }
-    if !is_once(h, CALL_ID) {
+    if !is_once(h, names::CALL_ID) {
         return false;
     }
-    is_once(h, CSEQ)
+    is_once(h, names::CSEQ)
 }
 
 // Whether no quote and no < of a To value is unclosed.
@@ -122,9 +105,9 @@ fn is_closed(t: ToValue) -> bool
     }
 }
 
-// Whether the request is readable.
-pub fn is_readable(s: &[u8], h: Head) -> bool
-    ensures { λ r. ⌜ r ≡ isReadable (now (s .entry)) h ⌝ }
+// Whether the request is readable, where its To value says so much of its tag.
+pub fn is_readable(h: Head, to: ToValue) -> bool
+    ensures { λ r. ⌜ r ≡ (h .built && (standAsTheyMust h && isClosed to)) ⌝ }
 {
     if !h.built {
         return false;
@@ -132,7 +115,7 @@ pub fn is_readable(s: &[u8], h: Head) -> bool
     if !stand_as_they_must(h) {
         return false;
     }
-    is_closed(to::to_value(value_named(s, h, TO)))
+    is_closed(to)
 }
 
 // Whether a CSeq value is digits, blanks, the method.
@@ -141,7 +124,7 @@ fn is_cseq(method: &[u8], v: &[u8]) -> bool
 {
     let d = text::runs::past_kind(v, 0, Kind::Digit);
     let b = text::runs::past_kind(v, d, Kind::Blank);
-    if !is_fit(text::number::number(&v[..d], 2147483647)) {
+    if !is_fit(text::number::decimal(&v[..d], 2147483647)) {
         return false;
     }
     if b <= d {
@@ -164,7 +147,7 @@ fn is_fit(n: Num) -> bool
 pub fn cseq_fits(s: &[u8], h: Head) -> bool
     ensures { λ r. ⌜ r ≡ cseqFits (now (s .entry)) h ⌝ }
 {
-    is_cseq(method_of(s, h), value_named(s, h, CSEQ))
+    is_cseq(method_of(s, h), value_named(s, h, names::CSEQ))
 }
 
 // How many bytes are there behind the empty line.
@@ -183,17 +166,17 @@ pub fn content_length(s: &[u8], h: Head) -> Num
     ensures { λ r. ⌜ r ≡ contentLength (now (s .entry)) h ⌝ }
 {
     let most = bytes_there(s, h) as u64;
-    text::number::number(value_named(s, h, CONTENT_LENGTH), most)
+    text::number::decimal(value_named(s, h, names::CONTENT_LENGTH), most)
 }
 
 // Whether Content-Length is absent, or stands once and fits.
 pub fn content_length_fits(s: &[u8], h: Head) -> bool
     ensures { λ r. ⌜ r ≡ contentLengthFits (now (s .entry)) h ⌝ }
 {
-    if is_repeated(h, CONTENT_LENGTH) {
+    if is_repeated(h, names::CONTENT_LENGTH) {
         return false;
     }
-    if is_absent(h, CONTENT_LENGTH) {
+    if is_absent(h, names::CONTENT_LENGTH) {
         return true;
     }
     is_fit(content_length(s, h))
@@ -203,17 +186,17 @@ pub fn content_length_fits(s: &[u8], h: Head) -> bool
 pub fn expires_of(s: &[u8], h: Head) -> Num
     ensures { λ r. ⌜ r ≡ expires (now (s .entry)) h ⌝ }
 {
-    text::number::number(value_named(s, h, EXPIRES), 4294967295)
+    text::number::decimal(value_named(s, h, names::EXPIRES), 4294967295)
 }
 
 // Whether Expires is absent, or stands once and fits.
 pub fn expires_fits(s: &[u8], h: Head) -> bool
     ensures { λ r. ⌜ r ≡ expiresFits (now (s .entry)) h ⌝ }
 {
-    if is_repeated(h, EXPIRES) {
+    if is_repeated(h, names::EXPIRES) {
         return false;
     }
-    if is_absent(h, EXPIRES) {
+    if is_absent(h, names::EXPIRES) {
         return true;
     }
     is_fit(expires_of(s, h))
@@ -232,17 +215,17 @@ pub fn is_bad_request(s: &[u8], h: Head) -> bool
     if !expires_fits(s, h) {
         return true;
     }
-    if is_repeated(h, EVENT) {
+    if is_repeated(h, names::EVENT) {
         return true;
     }
-    is_repeated(h, CONTENT_TYPE)
+    is_repeated(h, names::CONTENT_TYPE)
 }
 
 // How long the body is.
 pub fn body_length(s: &[u8], h: Head) -> usize
     ensures { λ r. ⌜ r ≡ bodyLength (now (s .entry)) h ⌝ }
 {
-    if is_absent(h, CONTENT_LENGTH) {
+    if is_absent(h, names::CONTENT_LENGTH) {
         return bytes_there(s, h);
     }
     let Num::Value(n) = content_length(s, h) else {
@@ -251,11 +234,11 @@ pub fn body_length(s: &[u8], h: Head) -> usize
     n as usize
 }
 
-// The body: that part of the request.
-pub fn body_of(s: &[u8], h: Head) -> &[u8]
+// The body, of so many bytes: that part of the request.
+pub fn body_of(s: &[u8], h: Head, n: usize) -> &[u8]
+    requires { ⌜ n ≡ bodyLength (now s) h ⌝ }
     ensures { λ r. ⌜ now r ≡ body (now (s .entry)) h ⌝ }
 {
-    let n = body_length(s, h);
     let rest = h.rest;
     if s.len() < rest {
         return &s[0..0];
@@ -268,21 +251,21 @@ pub fn body_of(s: &[u8], h: Head) -> &[u8]
 pub fn event_text(s: &[u8], h: Head) -> &[u8]
     ensures { λ r. ⌜ now r ≡ eventText (now (s .entry)) h ⌝ }
 {
-    text::runs::up_to_parameter(value_named(s, h, EVENT))
+    text::runs::up_to_parameter(value_named(s, h, names::EVENT))
 }
 
 // Whether SIP-If-Match is given.
 pub fn has_match(h: Head) -> bool
     ensures { λ r. ⌜ r ≡ hasMatch h ⌝ }
 {
-    !is_absent(h, SIP_IF_MATCH)
+    !is_absent(h, names::SIP_IF_MATCH)
 }
 
 // The tag presented.
 pub fn match_text(s: &[u8], h: Head) -> &[u8]
     ensures { λ r. ⌜ now r ≡ matchText (now (s .entry)) h ⌝ }
 {
-    value_named(s, h, SIP_IF_MATCH)
+    value_named(s, h, names::SIP_IF_MATCH)
 }
 
 // Whether SIP-If-Match is repeated or not one token.
@@ -292,7 +275,7 @@ pub fn is_bad_match(s: &[u8], h: Head) -> bool
     if !has_match(h) {
         return false;
     }
-    if is_repeated(h, SIP_IF_MATCH) {
+    if is_repeated(h, names::SIP_IF_MATCH) {
         return true;
     }
     !text::runs::is_one_token(match_text(s, h))

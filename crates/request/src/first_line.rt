@@ -1,9 +1,11 @@
 // The first line of a request.
 use crate::FirstLine;
+use text::class::Class;
 use text::class::Kind;
 ghost use mathlib.Core.Path.{_≡_};
 ghost use Prim.Native.Nat.{_<_};
 ghost use lib.ListN.{length};
+ghost use Rattle.text.specs.Class.{classTable};
 ghost use Rattle.request.specs.FirstLine.{crlfAt, versionAt, firstLine};
 
 // Whether CR LF stands at a position.
@@ -28,10 +30,11 @@ fn version_at(s: &[u8], i: usize) -> bool
 }
 
 // The first line: a token, one space, bytes 33 to 126, one space, SIP/2.0, CR LF.
-pub fn first_line(s: &[u8]) -> FirstLine
+pub fn first_line(s: &[u8], classes: &[u8; 256]) -> FirstLine
+    requires { ⌜ now classes ≡ classTable ⌝ }
     ensures { λ r. ⌜ r ≡ firstLine (now (s .entry)) ⌝ }
 {
-    let method = text::runs::past_kind(s, 0, Kind::Token);
+    let method = text::runs::past_class(s, 0, Class::Token, classes);
     if method == 0 {
         return FirstLine::Broken;
     }

@@ -2,15 +2,18 @@
 use crate::HeaderLine;
 use crate::Line;
 use crate::first_line;
+use text::class::Class;
 use text::class::Kind;
 ghost use mathlib.Core.Path.{_≡_};
+ghost use Rattle.text.specs.Class.{classTable};
 ghost use Rattle.request.specs.HeaderLines.{headerLine, nameOf, valueOf};
 
 // The header line at a position: a token, blanks, a colon, value bytes, CR LF.
-pub fn header_line(s: &[u8], at: usize) -> HeaderLine
+pub fn header_line(s: &[u8], at: usize, classes: &[u8; 256]) -> HeaderLine
+    requires { ⌜ now classes ≡ classTable ⌝ }
     ensures { λ r. ⌜ r ≡ headerLine (now (s .entry)) at ⌝ }
 {
-    let name = text::runs::past_kind(s, at, Kind::Token);
+    let name = text::runs::past_class(s, at, Class::Token, classes);
     if name <= at {
         return HeaderLine::NoHeader;
     }
@@ -18,7 +21,7 @@ pub fn header_line(s: &[u8], at: usize) -> HeaderLine
     if text::runs::byte_at(s, colon) != 58 {
         return HeaderLine::NoHeader;
     }
-    let end = text::runs::past_kind(s, colon + 1, Kind::Value);
+    let end = text::runs::past_class(s, colon + 1, Class::Value, classes);
     if !first_line::crlf_at(s, end) {
         return HeaderLine::NoHeader;
     }

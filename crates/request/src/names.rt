@@ -6,6 +6,27 @@ ghost use Rattle.laws.specs.Lists.{placeOf};
 ghost use Rattle.text.specs.Names.{isNamed};
 ghost use Rattle.request.specs.Names.{spellings, nameNumber};
 
+// The numbers of the names.
+pub const VIA: usize = 0;
+
+pub const FROM: usize = 1;
+
+pub const TO: usize = 2;
+
+pub const CALL_ID: usize = 3;
+
+pub const CSEQ: usize = 4;
+
+pub const CONTENT_TYPE: usize = 5;
+
+pub const CONTENT_LENGTH: usize = 6;
+
+pub const EVENT: usize = 7;
+
+pub const EXPIRES: usize = 8;
+
+pub const SIP_IF_MATCH: usize = 9;
+
 // Whether the text is one of two spellings.
 fn spells(t: &[u8], full: &[u8], compact: &[u8]) -> bool
     ensures { λ r. ⌜ r ≡ isNamed (now (full .entry) ∷ now (compact .entry) ∷ []) (now (t .entry)) ⌝ }

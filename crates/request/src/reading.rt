@@ -1,4 +1,4 @@
-// What the first line and the header lines of a request say, read in one pass.
+// What the first line and the header lines of a request say, read in one pass. The table of classes is made here, once, and lent down.
 use crate::FirstLine;
 use crate::Head;
 use crate::HeaderLine;
@@ -8,6 +8,7 @@ use crate::first_line;
 use crate::header_line;
 use crate::names;
 ghost use mathlib.Core.Path.{_≡_};
+ghost use Rattle.text.specs.Class.{classTable};
 ghost use Rattle.request.specs.HeaderLines.{headerLines};
 ghost use Rattle.request.specs.Head.{zeroSeen, notBuilt, withHeaders, headOf};
 ghost use Rattle.request.specs.Noted.{notedOnce};
@@ -52,7 +53,8 @@ fn noted_once(f: Seen, l: Line) -> Seen
 }
 
 // The header lines from a position, at most 64, up to the empty line, behind a first line that is read.
-fn header_lines(s: &[u8], method: usize, uri: usize, at: usize) -> Head
+fn header_lines(s: &[u8], method: usize, uri: usize, at: usize, classes: &[u8; 256]) -> Head
+    requires { ⌜ now classes ≡ classTable ⌝ }
     ensures { λ r. ⌜ r ≡ withHeaders (now (s .entry)) method uri (headerLines 64 (now (s .entry)) at) ⌝ }
 {
     let z = zero_seen();
@@ -69,7 +71,7 @@ fn header_lines(s: &[u8], method: usize, uri: usize, at: usize) -> Head
                 seen,
             };
         }
-        let HeaderLine::Header(l) = header_line::header_line(s, i) else {
+        let HeaderLine::Header(l) = header_line::header_line(s, i, classes) else {
             return not_built();
         };
         let n = names::name_number(header_line::name_of(s, l));
@@ -95,8 +97,9 @@ fn header_lines(s: &[u8], method: usize, uri: usize, at: usize) -> Head
 pub fn read_head(s: &[u8]) -> Head
     ensures { λ r. ⌜ r ≡ headOf (now (s .entry)) ⌝ }
 {
-    let FirstLine::Read { method, uri, next } = first_line::first_line(s) else {
+    let classes = text::class::classes();
+    let FirstLine::Read { method, uri, next } = first_line::first_line(s, &classes) else {
         return not_built();
     };
-    header_lines(s, method, uri, next)
+    header_lines(s, method, uri, next, &classes)
 }

@@ -55,7 +55,7 @@ asks clock who lines = record { clock = clock; number = 1; request = calls "PUBL
 
 -- the numbers of a slot
 unfoldable pub slotNumbers : Slot → List ℕ
-slotNumbers s = s .event ∷ s .tag ∷ s .end ∷ s .length ∷ s .number ∷ []
+slotNumbers s = s .event ∷ s .tag ∷ s .end ∷ s .length ∷ s .edition ∷ []
 
 -- the numbers of a record, its address and its slots last
 unfoldable pub recordNumbers : Record → List ℕ

@@ -1,4 +1,4 @@
--- The laws of reading state over the records gathered: what the tests decide together.
+-- The laws of reading state with one record: what the tests decide together.
 use mathlib.Core.Path.{_≡_, refl, sym}
 use mathlib.Core.Bool.{Bool, true, false, not, _||_}
 use mathlib.Core.List.{List, [], _∷_}
@@ -6,28 +6,23 @@ use Prim.Native.Nat.{ℕ, zero, suc, _/_, _<_, _≤_}
 use native.Mathlib.Nat.{not-suc-le-zero, le-of-suc-le-suc}
 use native.Mathlib.Omega.{arith}
 use lib.Dec.{eqb, ltb}
-use lib.ListN.{length, getD, take, length-take}
-use lib.Seq.{length-take-le}
-use borrow.Author.Tests.{ne-eqb}
+use lib.ListN.{length, getD}
+use borrow.Author.Tests.{ltb-true, ne-eqb}
 use Rattle.laws.specs.Choose.{pick}
 use Rattle.laws.specs.First.{firstOf}
-use Rattle.laws.specs.Lists.{placeOf}
-use Rattle.laws.proofs.Lists.{place-within}
-use Rattle.record.specs.Address.{isFor}
 use Rattle.record.specs.Packages.{packageNamed, isListed}
-use Rattle.record.specs.Places.{emptyRecord, freePlace, placesIn, newest}
-use Rattle.record.specs.Sound.{latestClock, allSound}
+use Rattle.record.specs.Places.{freePlace, placesIn, newest}
+use Rattle.record.specs.Sound.{latestClock}
 use Rattle.record.specs.declared.Record.{Record}
 use Rattle.record.specs.declared.Slot.{Slot}
 use Rattle.publish.specs.Refusals.{isBadSize}
-use Rattle.table.specs.Table.{isKnown, placeFor, recordAt}
-use Rattle.table.specs.Read.{askedRows, askedRecord, readRefusals, bodyAt, newestBody, shownFor, stateWith}
-use Rattle.table.specs.Gathered.{gatheredTable}
+use Rattle.table.specs.Read.{askedRows, bodyAt, newestBody}
 use Rattle.table.specs.declared.Shown.{Shown}
 use Rattle.table.specs.declared.Shown.the-variants.{Default, Front}
 use Rattle.table.specs.declared.State.{State}
+use Rattle.table.specs.declared.looks.Sought.{Sought}
 use Rattle.table.proofs.OneRecord.{few-records}
-use Rattle.state.specs.Gathered.{queryOf, stateGathered}
+use Rattle.state.specs.Looked.{readRows, stateAt}
 
 -- two tests decide what is asked
 pub asked : (known : Bool) (own : Record) (event clock : ℕ) → {unknown back : Bool} → (not known || not (isListed event)) ≡ unknown
@@ -48,28 +43,33 @@ pub newest-shown : (r : Record) (i event clock k : ℕ) {b : Bool} → k ≡ new
 unfolding newestBody
 newest-shown r i event clock k e f = rw (sym e, f)
 
--- a place among the first n is at most n
-pub few-places : (a : List ℕ) (g : List Record) (n : ℕ) {i : ℕ} → n ≤ 16 → i ≡ placeOf (isFor a) (take n g) → i ≤ 16
-few-places a g n h e = omega (arith, e, place-within (isFor a) (take n g), length-take n g)
+-- where what is asked is not refused, the address is known
+pub asked-known : (known : Bool) (own : Record) (event clock : ℕ) {r : ℕ} → r ≡ firstOf (askedRows known own event clock) 0 → r ≡ 0 → known ≡ true
+unfolding askedRows firstOf
+asked-known true own event clock e z = refl
+asked-known false own event clock e z = absurd (omega (arith, e, z))
+
+-- with good sizes a known place is one of sixteen
+pub few-place : (n store i : ℕ) → isBadSize n store ≡ false → ltb i n ≡ true → i ≤ 16
+few-place n store i e k = omega (arith, few-records n store e, ltb-true i n k)
 
 -- what comes back
 abbrev state : ℕ → Shown → State
 state result shown = record { result = result; shown = shown }
 
-module _ (g : List Record) (n store : ℕ) (a name : List ℕ) (clock : ℕ) where
+module _ (k : Sought) (own : Record) (n store : ℕ) (name : List ℕ) (clock : ℕ) where
   -- with sizes that are not good it is 2
-  pub read-bad : isBadSize n store ≡ true → stateGathered g n store a name clock ≡ state 2 Front
-  unfolding stateGathered stateWith readRefusals firstOf
+  pub read-bad : isBadSize n store ≡ true → stateAt k own n store name clock ≡ state 2 Front
+  unfolding stateAt readRows firstOf
   read-bad e = rw e
 
   -- the tests behind decide the rest
-  pub read-asked : length g ≡ 16 → isBadSize n store ≡ false → {late sound : Bool} → ltb latestClock clock ≡ late → allSound (take n g) ≡ sound
-      → {i : ℕ} → i ≡ placeOf (isFor a) (take n g) → {own : Record} → own ≡ getD (take n g) i emptyRecord → {event : ℕ} → event ≡ packageNamed name
-      → {known : Bool} → ltb i n ≡ known → {r : ℕ} → r ≡ firstOf (askedRows known own event clock) 0
-      → stateGathered g n store a name clock
-      ≡ state (pick late 4 (pick (not sound) 5 r)) (pick (eqb (pick late 4 (pick (not sound) 5 r)) 0) (newestBody own i event clock) Front)
-  unfolding stateGathered stateWith readRefusals queryOf gatheredTable isKnown placeFor askedRecord recordAt shownFor firstOf
-  read-asked h b l s i o e k r = rw (b, length-take-le n g (omega (arith, few-records n store b)), l, s, r, sym k, o, i, e)
+  pub read-asked : isBadSize n store ≡ false → {late sound : Bool} → ltb latestClock clock ≡ late → k .sound ≡ sound
+      → {event : ℕ} → event ≡ packageNamed name → {r : ℕ} → r ≡ firstOf (askedRows (ltb (k .place) n) own event clock) 0
+      → stateAt k own n store name clock
+      ≡ state (pick late 4 (pick (not sound) 5 r)) (pick (eqb (pick late 4 (pick (not sound) 5 r)) 0) (newestBody own (k .place) event clock) Front)
+  unfolding stateAt readRows firstOf
+  read-asked b l s e r = rw (b, l, s, r, e)
 
 -- where a result refuses, it shows the front
 pub refused-as : {r : ℕ} (shown : Shown) {s : State} → (r ≡ 0 → ⊥) → s ≡ state r (pick (eqb r 0) shown Front) → state r Front ≡ s

@@ -1,4 +1,4 @@
-// Reading state over the records gathered: what is asked of one record, the state that comes back, and the bytes that it shows.
+// Reading state with the one record that it is about: what is asked of it, the state that comes back, and the bytes that it shows.
 pub mod asked;
 pub mod reading;
 pub mod shown;

@@ -1,11 +1,11 @@
-// The state that is read of the records gathered.
+// The state that is read, with what is found of the address and its record.
 use crate::asked;
 use record::Record;
 use table::Shown;
 use table::State;
-use table::finding;
+use table::looks::Sought;
 ghost use mathlib.Core.Path.{_≡_};
-ghost use Rattle.state.specs.Gathered.{stateGathered};
+ghost use Rattle.state.specs.Looked.{stateAt};
 ghost use Rattle.table.specs.declared.Shown.the-variants.{Front};
 
 // A refusal shows the empty front of the default.
@@ -18,16 +18,9 @@ fn refused(result: u8) -> State
     }
 }
 
-// Reads state over the first n of the records gathered. Of the store only its length is asked.
-pub fn state_gathered(
-    g: [Record; 16],
-    n: usize,
-    store: usize,
-    address: &[u8],
-    name: &[u8],
-    clock: u64,
-) -> State
-    ensures { λ r. ⌜ r ≡ stateGathered g n store (now (address .entry)) (now (name .entry)) clock ⌝ }
+// Reads state. Of the store only its length is asked.
+pub fn state_at(k: Sought, own: Record, n: usize, store: usize, name: &[u8], clock: u64) -> State
+    ensures { λ r. ⌜ r ≡ stateAt k own n store (now (name .entry)) clock ⌝ }
 {
     if publish::refusals::is_bad_size(n, store) {
         return refused(2);
@@ -35,16 +28,14 @@ pub fn state_gathered(
     if 1000000000000 < clock {
         return refused(4);
     }
-    if !record::sound::all_sound(g, n) {
+    if !k.sound {
         return refused(5);
     }
-    let i = finding::place_for(address, g, n);
-    let own = finding::record_of(g, n, i);
     let event = record::packages::package_named(name);
-    let result = asked::asked_refusal(i < n, own, event, clock);
+    let result = asked::asked_refusal(k.place < n, own, event, clock);
     if result != 0 {
         return refused(result);
     }
-    let shown = asked::newest_body(own, i, event, clock);
+    let shown = asked::newest_body(own, k.place, event, clock);
     State { result: 0, shown }
 }

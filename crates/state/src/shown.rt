@@ -2,11 +2,12 @@
 use crate::reading;
 use record::Record;
 use table::Shown;
+use table::looks::Sought;
 ghost use mathlib.Core.Path.{_≡_};
 ghost use Prim.Native.Nat.{_+_};
 ghost use Rattle.laws.specs.Lists.{part};
 ghost use Rattle.table.specs.Read.{shownBytes};
-ghost use Rattle.state.specs.Gathered.{ReadGathered};
+ghost use Rattle.state.specs.Looked.{ReadAt};
 
 // n bytes of the store from a position on, as far as it goes.
 fn stored(store: &[u8], from: usize, n: usize) -> &[u8]
@@ -27,22 +28,21 @@ pub fn shown_part<'a>(store: &'a [u8], default: &'a [u8], shown: Shown) -> &'a [
     }
 }
 
-// Reads state over the first n of the records gathered: the result is told, and the bytes shown are a part of the store or of the
-// default.
-pub fn read_gathered<'a>(
-    g: [Record; 16],
+// Reads state: the result is told, and the bytes shown are a part of the store or of the default.
+pub fn read_at<'a>(
+    k: Sought,
+    own: Record,
     n: usize,
     store: &'a [u8],
-    address: &[u8],
     name: &[u8],
     clock: u64,
     default: &'a [u8],
     result: &mut u8,
 ) -> &'a [u8]
-    ensures { λ r. ⌜ ReadGathered g n (now (store .entry)) (now (address .entry)) (now (name .entry)) clock (now (default .entry))
+    ensures { λ r. ⌜ ReadAt k own n (now (store .entry)) (now (name .entry)) clock (now (default .entry))
         (now (result .exit)) (now r) ⌝ }
 {
-    let s = reading::state_gathered(g, n, store.len(), address, name, clock);
+    let s = reading::state_at(k, own, n, store.len(), name, clock);
     *result = s.result;
     let shown = s.shown;
     shown_part(store, default, shown)

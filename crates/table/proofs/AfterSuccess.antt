@@ -48,7 +48,7 @@ module _ (x : Input) where
 
     -- what is written: the request's package, the tag given, as end clock plus granted, and that body length and body number
     abbrev pub holding : ℕ → ℕ → Place
-    holding length number =
+    holding length edition =
         record {
           taken = true;
           slot = record {
@@ -56,7 +56,7 @@ module _ (x : Input) where
             tag = tagOf (r .start) (r .spent + 1);
             end = x .clock + time;
             length = length;
-            number = number;
+            edition = edition;
           };
         }
 
@@ -90,7 +90,7 @@ module _ (x : Input) where
       pub writes : 0 < time → 0 < size → placeAt (places r′) slot ≡ holding size (r .spent + 1)
       -- where none is given, body length and body number stay
       pub renews : 0 < time → size ≡ 0
-          → placeAt (places r′) slot ≡ holding (placeAt (places r) slot .slot .length) (placeAt (places r) slot .slot .number)
+          → placeAt (places r′) slot ≡ holding (placeAt (places r) slot .slot .length) (placeAt (places r) slot .slot .edition)
       -- granted 0: a matched slot is freed
       pub ends : time ≡ 0 → hasMatch head ≡ true → placeAt (places r′) slot ≡ freePlace
       -- the store bytes at the slot's place are the body given, byte for byte

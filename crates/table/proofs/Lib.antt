@@ -3,10 +3,11 @@ pub mod OneRecord
 pub mod Sound
 pub mod GrantedLaws
 pub mod PlaceLaws
+pub mod SeekLaws
 pub mod OpenLaws
 pub mod AddLaws
 pub mod Whole
-pub mod GatheredLaws
+pub mod LookedLaws
 pub mod EarlyLaws
 pub mod CoreLaws
 pub mod AskLaws

@@ -162,7 +162,7 @@ unfolding addRefusals
 add-size e t h = none-refusing-add e t h 0
 
 -- where an address is added, a record is unused
-pub add-unused : (e : Entry) (t : Table) → added e t .result ≡ 0 → lowestUnused t < length (t .records)
+add-unused : (e : Entry) (t : Table) → added e t .result ≡ 0 → lowestUnused t < length (t .records)
 unfolding addRefusals
 add-unused e t h =
     ltb-true (lowestUnused t) (length (t .records)) (not-false (ltb (lowestUnused t) (length (t .records))) (none-refusing-add e t h 4))

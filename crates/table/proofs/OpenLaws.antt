@@ -11,7 +11,7 @@ use Rattle.laws.specs.Wrote.{Wrote}
 use Rattle.laws.proofs.Wrote.{wrote-whole}
 use Rattle.laws.proofs.Puts.{zeros-more}
 use Rattle.publish.specs.Refusals.{isBadSize}
-use Rattle.table.specs.Gathered.{openResult, openStore}
+use Rattle.table.specs.Looked.{openResult, openStore}
 
 module _ {d d′ : List ℕ} {i : ℕ} (w : Wrote d 0 (take i (replicate (length d) 0)) d′ i) where
   -- one zero more of as many as the store has bytes

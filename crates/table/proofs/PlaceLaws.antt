@@ -1,12 +1,11 @@
--- The laws of looking for a place among the first n of a list: one step of the walk, its end, and what stands at a place.
-use mathlib.Core.Path.{_≡_, refl, _∙_, ap}
+-- The laws of looking for a place among the first n of a list: one step of the walk, and its end.
+use mathlib.Core.Path.{_≡_, _∙_, ap}
 use mathlib.Core.Bool.{Bool, true, false}
-use mathlib.Core.List.{List, [], _∷_}
-use Prim.Native.Nat.{ℕ, zero, suc, _+_, _<_, _≤_}
-use native.Mathlib.Nat.{not-suc-le-zero, le-of-suc-le-suc}
+use mathlib.Core.List.{List, _∷_}
+use Prim.Native.Nat.{ℕ, suc, _+_, _<_, _≤_}
 use native.Mathlib.Numerals.{add-one}
 use native.Mathlib.Omega.{arith}
-use lib.ListN.{length, getD, take, drop, length-take, drop-of-length-le, List·getD-eq-default}
+use lib.ListN.{length, getD, take, drop, length-take, drop-of-length-le}
 use lib.Seq.{drop-cons, getD-take, length-take-le}
 use Rattle.laws.specs.Choose.{pick}
 use Rattle.laws.specs.Lists.{placeOf}
@@ -36,14 +35,3 @@ module _ {A : Type 0} where
   pub place-past : (f : A → Bool) (xs : List A) (n i : ℕ) → i ≡ n → placeFrom f xs n i ≡ n
   unfolding placeOf
   place-past f xs n i h = rw (drop-of-length-le (take n xs) {i = i} (omega (arith, length-take n xs))) (omega arith)
-
-  -- past the first n nothing stands
-  pub none-past : (xs : List A) (n i : ℕ) (d : A) → n ≤ i → getD (take n xs) i d ≡ d
-  none-past xs n i d h = List·getD-eq-default (take n xs) d (omega (arith, length-take n xs))
-
-  -- and before that stands what the list has there
-  pub one-before : (xs : List A) (n i : ℕ) (a d : A) → i < n → n ≤ length xs → getD xs i a ≡ getD (take n xs) i d
-  one-before xs zero i a d h k = absurd (not-suc-le-zero h)
-  one-before [] (suc n) i a d h k = absurd (not-suc-le-zero k)
-  one-before (x ∷ xs) (suc n) zero a d h k = refl
-  one-before (x ∷ xs) (suc n) (suc i) a d h k = one-before xs n i a d (le-of-suc-le-suc h) (le-of-suc-le-suc k)

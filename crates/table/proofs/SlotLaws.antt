@@ -99,7 +99,7 @@ module _ (t : Table) (buffer : List ℕ) (x : Input) (w : every isWhole (t .reco
 
   -- so body length and body number stay
   pub old-body : 0 < time x → size x ≡ 0
-      → placeAt (placesAfter y r) k ≡ holding x i r (placeAt (places r) k .slot .length) (placeAt (places r) k .slot .number)
+      → placeAt (placesAfter y r) k ≡ holding x i r (placeAt (places r) k .slot .length) (placeAt (places r) k .slot .edition)
   unfolding written hasBody givenTag successNumber successFor
   old-body l z = new l ∙ rw (le-ltb 0 (size x) (omega arith), not-freed z)
 

@@ -3,7 +3,7 @@ pub mod HeldRecord
 pub mod Open
 pub mod Add
 pub mod Handle
-pub mod Gathered
+pub mod Looked
 pub mod Read
 pub mod Run
 pub mod All

@@ -1,13 +1,15 @@
-// Adding an address to the records gathered.
-use crate::finding;
+// Adding an address, by the looks at the lent records.
+use crate::looks;
+use lent::look::Look;
 use record::Record;
 ghost use mathlib.Core.Path.{_≡_};
-ghost use mathlib.Core.List.{[]};
 ghost use Prim.Native.Nat.{_≤_};
-ghost use lib.ListN.{length, drop};
+ghost use lib.ListN.{length, take, drop};
 ghost use Rattle.laws.specs.First.{firstOf};
-ghost use Rattle.table.specs.Add.{addRefusals, freshRecord};
-ghost use Rattle.table.specs.Gathered.{gatheredTable, entryOf, addResult, addOut, addStore};
+ghost use Rattle.laws.specs.Lists.{placeOf};
+ghost use Rattle.lent.specs.Look.{isLookFor};
+ghost use Rattle.table.specs.Add.{freshRecord};
+ghost use Rattle.table.specs.Looked.{entryOf, addRows, addOut, addStore};
 
 // What adding comes to: the result, the record that is kept, and its place (past the end where it is refused).
 pub struct Added {
@@ -17,33 +19,34 @@ pub struct Added {
 }
 
 // The refusals about the address: malformed, there already, no record for it. 0 where none applies.
-fn address_refusal(g: [Record; 16], n: usize, address: &[u8]) -> u8
-    requires { ⌜ n ≤ 16 ⌝ }
-    ensures { λ r. ⌜ r ≡ firstOf (drop 2 (addRefusals (entryOf (now (address .entry)) 0 0) (gatheredTable g n []))) 0 ⌝ }
+fn address_refusal(ls: [Look; 16], n: usize, place: usize, address: &[u8]) -> u8
+    requires { ⌜ (n ≤ 16) × (place ≡ placeOf (isLookFor (now address)) (take n ls)) ⌝ }
+    ensures { λ r. ⌜ r ≡ firstOf (drop 2 (addRows ls n 0 (now (address .entry)))) 0 ⌝ }
 {
     if !record::address::is_address(address) {
         return 7;
     }
-    if finding::place_for(address, g, n) < n {
+    if place < n {
         return 8;
     }
-    if n <= finding::lowest_unused(g, n) {
+    if n <= looks::lowest_unused(ls, n) {
         return 9;
     }
     0
 }
 
 // The first refusal that applies; 0 where none does. The start and the count of tags spent have no part in it.
-fn add_refusal(g: [Record; 16], n: usize, store: &[u8], address: &[u8]) -> u8
-    ensures { λ r. ⌜ r ≡ addResult g n (now (store .entry)) (entryOf (now (address .entry)) 0 0) ⌝ }
+fn add_refusal(ls: [Look; 16], n: usize, store: usize, address: &[u8]) -> u8
+    ensures { λ r. ⌜ r ≡ firstOf (addRows ls n store (now (address .entry))) 0 ⌝ }
 {
-    if publish::refusals::is_bad_size(n, store.len()) {
+    if publish::refusals::is_bad_size(n, store) {
         return 2;
     }
-    if !record::sound::all_sound(g, n) {
+    let k = looks::seek(address, ls, n);
+    if !k.sound {
         return 5;
     }
-    address_refusal(g, n, address)
+    address_refusal(ls, n, k.place, address)
 }
 
 // A record in use for an address, with its start and its count of tags spent; zero in its other fields.
@@ -65,18 +68,18 @@ fn fresh(address: &[u8], start: u32, spent: u32) -> Record
 }
 
 // Adds an address: its part of the store is zeroed, and its record and place are given. A refusal touches nothing.
-pub fn add_gathered(
-    g: [Record; 16],
+pub fn add_looked(
+    ls: [Look; 16],
     n: usize,
     store: &mut [u8],
     address: &[u8],
     start: u32,
     spent: u32,
 ) -> Added
-    ensures { λ r. ⌜ (r ≡ addOut g n (now (store .entry)) (now (address .entry)) start spent)
-        × (now (store .exit) ≡ addStore g n (now (store .entry)) (now (address .entry)) start spent) ⌝ }
+    ensures { λ r. ⌜ (r ≡ addOut ls n (now (store .entry)) (now (address .entry)) start spent)
+        × (now (store .exit) ≡ addStore ls n (now (store .entry)) (now (address .entry))) ⌝ }
 {
-    let result = add_refusal(g, n, store, address);
+    let result = add_refusal(ls, n, store.len(), address);
     if result != 0 {
         return Added {
             result,
@@ -84,7 +87,7 @@ pub fn add_gathered(
             kept: lent::empty(),
         };
     }
-    let i = finding::lowest_unused(g, n);
+    let i = looks::lowest_unused(ls, n);
     record::store::zero_part(store, i);
     Added {
         result: 0,

@@ -1,13 +1,17 @@
-// Handling a request over the records gathered: the early refusals, the reading, the answer, and what a success keeps.
+// Handling a request: what is known of it before its record is taken out, and, with that record, the answer and what a success keeps.
 use crate::Handled;
-use crate::finding;
+use crate::looks;
+use lent::look::Look;
+use publish::Asked;
 use publish::Outcome;
+use publish::Refusal;
+use publish::asking;
 use publish::message;
 use publish::refusals;
-use publish::times;
 use record::Record;
 use record::Success;
 use request::Head;
+use request::ToValue;
 use request::fields;
 use request::reading;
 ghost use mathlib.Core.Path.{_≡_};
@@ -16,15 +20,23 @@ ghost use mathlib.Core.List.{[], _++_};
 ghost use Prim.Native.Nat.{_≤_};
 ghost use lib.ListN.{length, drop};
 ghost use Rattle.laws.specs.Choose.{pick};
-ghost use Rattle.laws.specs.First.{firstOf};
-ghost use Rattle.request.specs.Head.{headOf, isReadable};
-ghost use Rattle.request.specs.Fields.{hasMatch, bodyLength};
-ghost use Rattle.publish.specs.Outcomes.{isSilent, isSuccess};
-ghost use Rattle.publish.specs.Refusals.{presented};
+ghost use Rattle.request.specs.Names.{To};
+ghost use Rattle.request.specs.To.{toValue};
+ghost use Rattle.request.specs.Head.{headOf, valueNamed, isReadable};
+ghost use Rattle.publish.specs.Outcomes.{isSilent};
+ghost use Rattle.publish.specs.Refusals.{outcomeOf};
+ghost use Rattle.publish.specs.Refusal.{refusalIn};
+ghost use Rattle.publish.specs.Asked.{askedOf};
 ghost use Rattle.publish.specs.Message.{message};
-ghost use Rattle.publish.specs.Step.{successFor};
-ghost use Rattle.publish.specs.declared.Outcome.the-variants.{Granted};
-ghost use Rattle.table.specs.Gathered.{earlyRows, handleOut, handleStore, handleAnswer};
+ghost use Rattle.table.specs.Looked.{begunOf, caseWith, earlyRows, handleOut, handleStore, handleAnswer};
+
+// What is known of a request before its record is taken out: whether all records are sound, the place of its address (past the end
+// where it has none), and what its head says.
+pub struct Begun {
+    pub sound: bool,
+    pub place: usize,
+    pub head: Head,
+}
 
 // What handling comes to: outcome and length, the record that is kept, and its place (past the end where the request is refused).
 pub struct Settled {
@@ -33,48 +45,72 @@ pub struct Settled {
     pub kept: Record,
 }
 
-// Before the request is read: the sizes, the clock, and the soundness of every record.
+// Reads a request, no further than a request may go, and looks for its address.
+pub fn begin(ls: [Look; 16], n: usize, request: &[u8]) -> Begun
+    ensures { λ b. ⌜ b ≡ begunOf ls n (now (request .entry)) ⌝ }
+{
+    let s = text::part::part_of(request, 0, 4096);
+    let head = reading::read_head(s);
+    let k = looks::seek(fields::uri_of(s, head), ls, n);
+    Begun {
+        sound: k.sound,
+        place: k.place,
+        head,
+    }
+}
+
+// Before what the request says: the sizes, the clock, and the soundness of every record.
 fn early_refusal(
-    g: [Record; 16],
+    sound: bool,
     n: usize,
     store: usize,
     request: usize,
     buffer: usize,
     clock: u64,
-) -> Outcome
-    ensures { λ r. ⌜ r ≡ firstOf (earlyRows g n store request buffer clock) (Granted 0 0) ⌝ }
+) -> Refusal
+    ensures { λ r. ⌜ r ≡ refusalIn (earlyRows sound n store request buffer clock) ⌝ }
 {
-    let a = refusals::sizes_refusal(buffer, n, store, request, clock);
-    if !refusals::is_success(a) {
-        return a;
+    let by_size = refusals::sizes_refusal(buffer, n, store, request, clock);
+    if refusals::is_refusal(by_size) {
+        return by_size;
     }
-    if !record::sound::all_sound(g, n) {
-        return Outcome::Silent(5);
+    if !sound {
+        return Refusal::First(Outcome::Silent(5));
     }
-    Outcome::Granted(0, 0)
+    Refusal::NoneApplies
 }
 
-// The slot that is matched; 8 where no tag is presented.
-fn matched_slot(r: Record, clock: u64, s: &[u8], h: Head) -> u8
-    ensures { λ k. ⌜ k ≡ pick (hasMatch h) (presented r clock (now (s .entry)) h) 8 ⌝ }
+// What comes back for a request, with its record.
+fn outcome_at(
+    b: Begun,
+    own: Record,
+    a: Asked,
+    n: usize,
+    store: usize,
+    buffer: usize,
+    clock: u64,
+    request: &[u8],
+) -> Outcome
+    requires { ⌜ a ≡ askedOf own clock (now request) (b .head) ⌝ }
+    ensures { λ o. ⌜ o ≡ outcomeOf (caseWith b own n store buffer clock (now (request .entry))) ⌝ }
 {
-    if !fields::has_match(h) {
-        return 8;
-    }
-    times::presented_slot(r, clock, s, h) as u8
+    let head = b.head;
+    let early = early_refusal(b.sound, n, store, request.len(), buffer, clock);
+    let otherwise = refusals::request_outcome(a, b.place < n, own, clock, request, head);
+    refusals::or_else(early, otherwise)
 }
 
 // The success that a request is at a record, where no refusal applies.
-fn success_for(r: Record, clock: u64, s: &[u8], h: Head) -> Success
-    requires { ⌜ bodyLength (now s) h ≤ 512 ⌝ }
-    ensures { λ x. ⌜ x ≡ successFor r clock (now (s .entry)) h ⌝ }
+fn success_for(a: Asked, clock: u64) -> Success
+    requires { ⌜ a .length ≤ 512 ⌝ }
+    ensures { λ x. ⌜ x ≡ record { clock = clock; event = a .event; slot = a .slot; granted = a .granted; length = a .length } ⌝ }
 {
     Success {
         clock,
-        event: times::event_of(s, h),
-        slot: matched_slot(r, clock, s, h),
-        granted: times::granted_time(s, h),
-        length: fields::body_length(s, h) as u16,
+        event: a.event,
+        slot: a.slot,
+        granted: a.granted,
+        length: a.length as u16,
     }
 }
 
@@ -90,9 +126,10 @@ fn is_silent(o: Outcome) -> bool
 }
 
 // Writes the message that is due at the begin of the answer buffer, and gives its length; nothing where none is due.
-fn put_answer(answer: &mut [u8], s: &[u8], h: Head, number: u32, o: Outcome) -> usize
-    requires { ⌜ (4608 ≤ length (now answer)) × (length (now s) ≤ 4096) × (h ≡ headOf (now s))
-        × (isSilent o ≡ false → isReadable (now s) h ≡ true) ⌝ }
+fn put_answer(answer: &mut [u8], s: &[u8], h: Head, to: ToValue, number: u32, o: Outcome) -> usize
+    requires { ⌜ (isSilent o ≡ false
+        → (4608 ≤ length (now answer)) × (length (now s) ≤ 4096) × (h ≡ headOf (now s)) × (to ≡ toValue (valueNamed To (now s) h))
+        × (isReadable (now s) h ≡ true)) ⌝ }
     ensures { λ r. ⌜ (r ≡ length (pick (isSilent o) [] (message (now (s .entry)) number o)))
         × (now (answer .exit)
         ≡ pick (isSilent o) [] (message (now (s .entry)) number o)
@@ -101,12 +138,13 @@ fn put_answer(answer: &mut [u8], s: &[u8], h: Head, number: u32, o: Outcome) -> 
     if is_silent(o) {
         return 0;
     }
-    message::write_message(answer, s, h, number, o)
+    message::write_message(answer, s, h, to, number, o)
 }
 
-// A request that is not refused early: it is read, answered, and what a success does is done.
-fn handle_read(
-    g: [Record; 16],
+// A request whose record is at hand is answered, and what a success does is done.
+pub fn finish(
+    b: Begun,
+    own: Record,
     n: usize,
     store: &mut [u8],
     clock: u64,
@@ -114,56 +152,30 @@ fn handle_read(
     request: &[u8],
     answer: &mut [u8],
 ) -> Settled
-    requires { ⌜ isSuccess
-        (firstOf (earlyRows g n (length (now store)) (length (now request)) (length (now answer)) clock) (Granted 0 0)) ≡ true ⌝ }
-    ensures { λ r. ⌜ (r ≡ handleOut g n (now (store .entry)) clock number (now (request .entry)) (now (answer .entry)))
-        × ((now (store .exit) ≡ handleStore g n (now (store .entry)) clock number (now (request .entry)) (now (answer .entry)))
-        × (now (answer .exit) ≡ handleAnswer g n (now (store .entry)) clock number (now (request .entry)) (now (answer .entry)))) ⌝ }
+    requires { ⌜ (length (now request) ≤ 4096 → b .head ≡ headOf (now request)) ⌝ }
+    ensures { λ r. ⌜ (r ≡ handleOut b own n (now (store .entry)) clock number (now (request .entry)) (now (answer .entry)))
+        × ((now (store .exit) ≡ handleStore b own n (now (store .entry)) clock number (now (request .entry)) (now (answer .entry)))
+        × (now (answer .exit) ≡ handleAnswer b own n (now (store .entry)) clock number (now (request .entry)) (now (answer .entry)))) ⌝ }
 {
-    let h = reading::read_head(request);
-    let i = finding::place_for(fields::uri_of(request, h), g, n);
-    let own = finding::record_of(g, n, i);
-    let outcome = refusals::request_outcome(i < n, own, clock, request, h);
-    let length = put_answer(answer, request, h, number, outcome);
+    let head = b.head;
+    let a = asking::asked_of(own, clock, request, head);
+    let outcome = outcome_at(b, own, a, n, store.len(), answer.len(), clock, request);
+    let to = a.to;
+    let length = put_answer(answer, request, head, to, number, outcome);
     let handled = Handled { outcome, length };
     if !refusals::is_success(outcome) {
         return Settled {
             handled,
             index: n,
-            kept: lent::empty(),
+            kept: own,
         };
     }
-    let x = success_for(own, clock, request, h);
-    let kept = record::after::succeed(store, i, x, own, fields::body_of(request, h));
+    let x = success_for(a, clock);
+    let body = fields::body_of(request, head, a.length);
+    let kept = record::after::succeed(store, b.place, x, own, body);
     Settled {
         handled,
-        index: i,
+        index: b.place,
         kept,
     }
-}
-
-// One request over the records gathered.
-pub fn handle_gathered(
-    g: [Record; 16],
-    n: usize,
-    store: &mut [u8],
-    clock: u64,
-    number: u32,
-    request: &[u8],
-    answer: &mut [u8],
-) -> Settled
-    ensures { λ r. ⌜ (r ≡ handleOut g n (now (store .entry)) clock number (now (request .entry)) (now (answer .entry)))
-        × ((now (store .exit) ≡ handleStore g n (now (store .entry)) clock number (now (request .entry)) (now (answer .entry)))
-        × (now (answer .exit) ≡ handleAnswer g n (now (store .entry)) clock number (now (request .entry)) (now (answer .entry)))) ⌝ }
-{
-    let outcome = early_refusal(g, n, store.len(), request.len(), answer.len(), clock);
-    if !refusals::is_success(outcome) {
-        let handled = Handled { outcome, length: 0 };
-        return Settled {
-            handled,
-            index: n,
-            kept: lent::empty(),
-        };
-    }
-    handle_read(g, n, store, clock, number, request, answer)
 }

@@ -1,8 +1,9 @@
 // The lent records and store: opening, adding and handling a request, and what reading state comes back with. The definitions stand in
-// specs/; the code here is given the records by value, and what it keeps is put back by the functions that walk the lent slice.
+// specs/; the code here is given the looks at the records and the one record that a call is for, by value, and what it keeps is put back
+// by the functions that walk the lent slice.
 pub mod adding;
-pub mod finding;
 pub mod handling;
+pub mod looks;
 pub mod opening;
 
 use publish::Outcome;

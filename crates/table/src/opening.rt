@@ -1,7 +1,7 @@
 // Opening: the result, the zeroed store, and the places that are emptied.
 ghost use mathlib.Core.Path.{_≡_};
 ghost use lib.ListN.{length, replicate};
-ghost use Rattle.table.specs.Gathered.{openResult, openStore, emptyAt};
+ghost use Rattle.table.specs.Looked.{openResult, openStore, emptyAt};
 
 // Zeroes every byte of the store.
 fn zero_all(store: &mut [u8])

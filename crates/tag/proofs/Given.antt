@@ -1,6 +1,6 @@
 -- The paper's "some n from 1 to spent gives this tag" and the test that decides it agree.
 use mathlib.Core.Path.{_≡_, sym, _∙_}
-use mathlib.Core.Bool.{Bool, true, false, _&&_}
+use mathlib.Core.Bool.{_&&_}
 use mathlib.Core.Logic.{_↔_}
 use Prim.Native.Nat.{ℕ, _+_, _-_, _*_, _%_, _/_, _<_}
 use native.Mathlib.Omega.{arith}

@@ -28,6 +28,11 @@ pub eight-length : (n : ℕ) → length (eightHex n) ≡ 8
 unfolding eightHex
 eight-length n = hex-length 8 n
 
+-- they are four and four
+four-four : (n : ℕ) → hexDigits 4 (n / 65536) ++ hexDigits 4 n ≡ eightHex n
+unfolding eightHex hexDigits
+four-four n = let e : n / 65536 ≡ n / 16 / 16 / 16 / 16 = omega arith in rw e
+
 -- one decimal digit more is at most one byte more
 decimal-more : (k j n : ℕ) → length (decimalDigits k (n / 10)) ≤ j → length (decimalDigits (suc k) n) ≤ suc j
 unfolding decimalDigits
@@ -85,11 +90,20 @@ put-digits-last (suc k) n x f h e v = rw (lt-ltb n 10 h) (rw (e ∙ digit-low n 
 
 module _ {d : List ℕ} {at : ℕ} {d′ : List ℕ} {p : ℕ} {d″ : List ℕ} {r : ℕ} where
   -- the hex digits in front, and behind them the last one
+  pub put-hex-next : (k n x : ℕ) → Wrote d at (hexDigits k (n / 16)) d′ p → x ≡ hexDigit (n % 16) → Wrote d′ p (x ∷ []) d″ r
+      → Wrote d at (hexDigits (suc k) n) d″ r
+  unfolding hexDigits
+  put-hex-next k n x u e v = then u (rw e at v)
+
+  -- the same, where there are some to write
   pub put-hex-more : (k n x : ℕ) → (k ≡ 0 → ⊥) → Wrote d at (hexDigits (k - 1) (n / 16)) d′ p → x ≡ hexDigit (n % 16)
       → Wrote d′ p (x ∷ []) d″ r → Wrote d at (hexDigits k n) d″ r
-  unfolding hexDigits
   put-hex-more zero n x f u e v = absurd (f refl)
-  put-hex-more (suc k) n x f u e v = then (rw (sub-one (suc k)) at u) (rw e at v)
+  put-hex-more (suc k) n x f u e v = put-hex-next k n x (rw (sub-one (suc k)) at u) e v
+
+  -- four hex digits and four are eight
+  pub put-hex-eight : (n : ℕ) → Wrote d at (hexDigits 4 (n / 65536)) d′ p → Wrote d′ p (hexDigits 4 n) d″ r → Wrote d at (eightHex n) d″ r
+  put-hex-eight n u v = rw (← four-four n) (then u v)
 
   -- the decimal digits in front, and behind them the last one
   pub put-digits-more : (k n x : ℕ) → (k ≡ 0 → ⊥) → 10 ≤ n → Wrote d at (decimalDigits (k - 1) (n / 10)) d′ p

@@ -1,39 +1,40 @@
--- The laws of comparing two texts from a position on.
-use mathlib.Core.Path.{_≡_}
-use mathlib.Core.Bool.{false}
-use mathlib.Core.List.{List}
-use Prim.Native.Nat.{ℕ, _+_, _<_, _≤_}
+-- The laws of comparing two texts: by their lengths, and for texts of one length from a position on.
+use mathlib.Core.Path.{_≡_, refl, ap}
+use mathlib.Core.Bool.{Bool, true, false}
+use mathlib.Core.List.{List, [], _∷_}
+use Prim.Native.Nat.{ℕ, suc, _+_, _<_, _≤_}
 use native.Mathlib.Numerals.{add-one}
-use native.Mathlib.Decide.{decLt}
-use native.Mathlib.Omega.{arith}
-use lib.Dec.{leb}
+use lib.Dec.{eqb}
 use lib.ListN.{length, getD, drop, drop-of-length-le}
 use lib.Seq.{drop-cons}
-use borrow.Author.Tests.{eq-eqb, ne-eqb, le-leb, lt-leb}
+use borrow.Author.Tests.{eq-eqb, ne-eqb}
+use Rattle.laws.specs.Choose.{pick}
 use Rattle.laws.specs.Lists.{same}
 
-module _ (s t : List ℕ) (i : ℕ) where
+-- texts of other lengths are not the same
+pub same-other : (s t : List ℕ) → (length s ≡ length t → ⊥) → same s t ≡ false
+unfolding same
+same-other [] [] h = absurd (h refl)
+same-other [] (y ∷ ys) h = refl
+same-other (x ∷ xs) [] h = refl
+same-other (x ∷ xs) (y ∷ ys) h = go (eqb x y) (same-other xs ys (λ e. h (ap suc e)))
+  where
+    go : (b : Bool) → same xs ys ≡ false → pick b (same xs ys) false ≡ false
+    go true r = r
+    go false r = refl
+
+module _ (s t : List ℕ) (l : length s ≡ length t) (i : ℕ) where
   -- two bytes that are equal leave it to the bytes behind them
-  pub same-on : i < length s → i < length t → getD s i 0 ≡ getD t i 0
-      → same (drop i s) (drop i t) ≡ same (drop (i + 1) s) (drop (i + 1) t)
+  pub same-on : i < length s → getD s i 0 ≡ getD t i 0 → same (drop i s) (drop i t) ≡ same (drop (i + 1) s) (drop (i + 1) t)
   unfolding same
-  same-on h k e = rw (drop-cons s i 0 h, drop-cons t i 0 k, eq-eqb _ _ e, add-one)
+  same-on h e = rw (drop-cons s i 0 h, drop-cons t i 0 (rw l at h), eq-eqb _ _ e, add-one)
 
   -- two bytes that differ decide it
-  pub same-off : i < length s → i < length t → (getD s i 0 ≡ getD t i 0 → ⊥) → same (drop i s) (drop i t) ≡ false
+  pub same-off : i < length s → (getD s i 0 ≡ getD t i 0 → ⊥) → same (drop i s) (drop i t) ≡ false
   unfolding same
-  same-off h k e = rw (drop-cons s i 0 h, drop-cons t i 0 k, ne-eqb _ _ e)
+  same-off h e = rw (drop-cons s i 0 h, drop-cons t i 0 (rw l at h), ne-eqb _ _ e)
 
-  -- and so does a byte against the other text's end
-  pub same-short : i < length s → length t ≤ i → same (drop i s) (drop i t) ≡ false
+  -- at the end they are the same
+  pub same-end : length s ≤ i → same (drop i s) (drop i t) ≡ true
   unfolding same
-  same-short h k = rw (drop-cons s i 0 h, drop-of-length-le t k)
-
-  -- at the first text's end they are the same if the other ends there too
-  pub same-end : length s ≤ i → same (drop i s) (drop i t) ≡ leb (length t) i
-  unfolding same
-  same-end h = go (decLt i (length t))
-    where
-      go : Dec (i < length t) → same (drop i s) (drop i t) ≡ leb (length t) i
-      go (yes k) = rw (drop-of-length-le s h, drop-cons t i 0 k, lt-leb (length t) i k)
-      go (no k) = rw (drop-of-length-le s h, drop-of-length-le t {i = i} (omega arith), le-leb (length t) i (omega arith))
+  same-end h = rw (drop-of-length-le s h, drop-of-length-le t (rw l at h))

@@ -1,12 +1,15 @@
 -- The classes of bytes, by their rule.
 use Prim.Native.Nat.{ℕ}
+use mathlib.Core.List.{List}
 use mathlib.Core.Bool.{Bool, _&&_, _||_, not}
 use lib.Dec.{leb, eqb}
 use Rattle.laws.specs.Choose.{pick}
-use Rattle.laws.specs.Lists.{any}
+use Rattle.laws.specs.Lists.{any, listed}
 use Rattle.laws.specs.Bytes.{bytes}
+use Rattle.text.specs.declared.class.Class.{Class}
+use Rattle.text.specs.declared.class.Class.the-variants.{Token, Value}
 use Rattle.text.specs.declared.class.Kind.{Kind}
-use Rattle.text.specs.declared.class.Kind.the-variants.{Token, Digit, Blank, Value, Visible, Plain}
+use Rattle.text.specs.declared.class.Kind.the-variants.{Digit, Blank, Visible, Plain}
 
 -- the number is one of a up to e
 abbrev pub from-to : ℕ → ℕ → ℕ → Bool
@@ -46,11 +49,18 @@ isPlain b = not (eqb b 59 || isBlank b)
 unfoldable pub classOf : ℕ → ℕ
 classOf b = pick (isDigit b) 4 (pick (isToken b) 3 (pick (isBlank b) 2 (pick (isValue b) 1 0)))
 
--- a byte is of a kind
+-- the classes of all 256 bytes
+unfoldable pub classTable : List ℕ
+classTable = listed classOf 0 256
+
+-- a byte is of a kind that is told by comparisons
 abbrev pub isKind : Kind → ℕ → Bool
-isKind Token = isToken
 isKind Digit = isDigit
 isKind Blank = isBlank
-isKind Value = isValue
 isKind Visible = isVisible
 isKind Plain = isPlain
+
+-- a byte is of a kind that is told by its class
+abbrev pub isClass : Class → ℕ → Bool
+isClass Token = isToken
+isClass Value = isValue

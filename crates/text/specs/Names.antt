@@ -1,6 +1,6 @@
 -- Texts compared in either case, and names with their compact forms.
 use Prim.Native.Nat.{ℕ, _+_}
-use mathlib.Core.Bool.{Bool, true, false}
+use mathlib.Core.Bool.{Bool}
 use mathlib.Core.List.{List, [], _∷_}
 use Rattle.laws.specs.Choose.{pick}
 use Rattle.laws.specs.Lists.{same, any}

@@ -1,8 +1,7 @@
 -- Runs of bytes of one kind, and the blanks round a text.
 use Prim.Native.Nat.{ℕ, suc, _+_}
-use mathlib.Core.Bool.{Bool, true, false, _&&_, not}
+use mathlib.Core.Bool.{Bool, _&&_, not}
 use mathlib.Core.List.{List, [], _∷_}
-use lib.Dec.{eqb}
 use lib.ListN.{take, drop}
 use Rattle.laws.specs.Choose.{pick}
 use Rattle.laws.specs.Lists.{every, empty}

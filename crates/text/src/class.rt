@@ -1,6 +1,7 @@
-// The classes of all 256 byte values, held in a table whose rule is `classOf`.
+// The kinds of bytes. Tokens and values are told by a table of the classes of all 256 bytes, whose rule is `classOf`: a caller makes it
+// once and lends it. The other kinds are told by comparisons.
 ghost use mathlib.Core.Path.{_≡_};
-ghost use Rattle.text.specs.Class.{classOf, isToken, isDigit, isBlank, isValue, isVisible, isPlain, isKind};
+ghost use Rattle.text.specs.Class.{classTable, isDigit, isBlank, isVisible, isPlain, isKind, isClass};
 
 const CLASS: [u8; 256] = [
     0,
@@ -261,14 +262,18 @@ const CLASS: [u8; 256] = [
     1,
 ];
 
-// The kinds of bytes that runs are made of.
+// The kinds of bytes that are told by comparisons.
 pub enum Kind {
-    Token,
     Digit,
     Blank,
-    Value,
     Visible,
     Plain,
+}
+
+// The kinds of bytes that are told by the table.
+pub enum Class {
+    Token,
+    Value,
 }
 
 fn wide(b: u8) -> usize
@@ -277,35 +282,41 @@ fn wide(b: u8) -> usize
     b as usize
 }
 
-// The class of a byte.
-pub fn class_of(b: u8) -> u8
-    ensures { λ r. ⌜ r ≡ classOf b ⌝ }
+// The classes of all bytes.
+pub fn classes() -> [u8; 256]
+    ensures { λ r. ⌜ r ≡ classTable ⌝ }
 {
-    CLASS[wide(b)]
+    CLASS
 }
 
-pub fn is_token(b: u8) -> bool
-    ensures { λ r. ⌜ r ≡ isToken b ⌝ }
+// Whether a byte is of a class.
+pub fn is_class(class: Class, b: u8, classes: &[u8; 256]) -> bool
+    requires { ⌜ now classes ≡ classTable ⌝ }
+    ensures { λ r. ⌜ r ≡ isClass class b ⌝ }
 {
-    3 <= class_of(b)
+    let c = classes[wide(b)];
+    match class {
+        Class::Token => 3 <= c,
+        Class::Value => 1 <= c,
+    }
 }
 
 pub fn is_digit(b: u8) -> bool
     ensures { λ r. ⌜ r ≡ isDigit b ⌝ }
 {
-    4 <= class_of(b)
+    if b < 48 {
+        return false;
+    }
+    b <= 57
 }
 
 pub fn is_blank(b: u8) -> bool
     ensures { λ r. ⌜ r ≡ isBlank b ⌝ }
 {
-    class_of(b) == 2
-}
-
-pub fn is_value(b: u8) -> bool
-    ensures { λ r. ⌜ r ≡ isValue b ⌝ }
-{
-    1 <= class_of(b)
+    if b == 32 {
+        return true;
+    }
+    b == 9
 }
 
 // A byte that addresses and Request-URIs are made of.
@@ -333,10 +344,8 @@ pub fn is_kind(kind: Kind, b: u8) -> bool
     ensures { λ r. ⌜ r ≡ isKind kind b ⌝ }
 {
     match kind {
-        Kind::Token => is_token(b),
         Kind::Digit => is_digit(b),
         Kind::Blank => is_blank(b),
-        Kind::Value => is_value(b),
         Kind::Visible => is_visible(b),
         Kind::Plain => is_plain(b),
     }

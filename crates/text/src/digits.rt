@@ -46,12 +46,28 @@ pub fn put_hex(buf: &mut [u8], at: usize, k: usize, n: u64) -> usize
     put::put_byte(buf, p, digit(n % 16))
 }
 
-// Puts eight hex digits of a 32-bit number.
+// Puts the last four hex digits of a number.
+fn put_four(buf: &mut [u8], at: usize, n: u64) -> usize
+    requires { ⌜ at + 4 ≤ length (now buf) ⌝ }
+    ensures { λ r. ⌜ Wrote (now (buf .entry)) at (hexDigits 4 n) (now (buf .exit)) r ⌝ }
+{
+    let m = n / 16;
+    let l = m / 16;
+    let k = l / 16;
+    let p = put::put_byte(buf, at, digit(k % 16));
+    let q = put::put_byte(buf, p, digit(l % 16));
+    let r = put::put_byte(buf, q, digit(m % 16));
+    put::put_byte(buf, r, digit(n % 16))
+}
+
+// Puts eight hex digits of a 32-bit number: four and four.
 pub fn put_eight(buf: &mut [u8], at: usize, n: u32) -> usize
     requires { ⌜ at + 8 ≤ length (now buf) ⌝ }
     ensures { λ r. ⌜ Wrote (now (buf .entry)) at (eightHex n) (now (buf .exit)) r ⌝ }
 {
-    put_hex(buf, at, 8, n as u64)
+    let m = n as u64;
+    let p = put_four(buf, at, m / 65536);
+    put_four(buf, p, m)
 }
 
 // Puts the last decimal digits of a number, at most k of them.

@@ -19,15 +19,15 @@ pub fn small(b: u8) -> u8
 pub fn same_text(s: &[u8], t: &[u8]) -> bool
     ensures { λ r. ⌜ r ≡ sameText (now (s .entry)) (now (t .entry)) ⌝ }
 {
+    if s.len() != t.len() {
+        return false;
+    }
     let mut i = 0;
     while i < s.len() {
-        if t.len() <= i {
-            return false;
-        }
         if small(s[i]) != small(t[i]) {
             return false;
         }
         i += 1;
     }
-    t.len() <= i
+    true
 }

@@ -16,7 +16,7 @@ fn wide(b: u8) -> u64
 }
 
 // What the whole text says as a number of at most so much.
-pub fn number(s: &[u8], most: u64) -> Num
+pub fn decimal(s: &[u8], most: u64) -> Num
     ensures { λ r. ⌜ r ≡ numberOf most (now (s .entry)) ⌝ }
 {
     if s.len() == 0 {

@@ -1,11 +1,12 @@
 // Single bytes, runs of bytes of one kind, and the blanks round a text.
 use crate::class;
+use crate::class::Class;
 use crate::class::Kind;
 ghost use mathlib.Core.Path.{_≡_};
 ghost use Prim.Native.Nat.{_+_, _≤_};
 ghost use lib.ListN.{length, drop};
 ghost use Rattle.laws.specs.Lists.{byteAt, same};
-ghost use Rattle.text.specs.Class.{isKind, isPlain};
+ghost use Rattle.text.specs.Class.{classTable, isKind, isClass, isPlain};
 ghost use Rattle.text.specs.Runs.{past, front, trimEnd, trim, isOneToken};
 
 // The byte at a position, or 256 past the end.
@@ -22,6 +23,21 @@ pub fn past_kind(s: &[u8], at: usize, kind: Kind) -> usize
     let mut i = at;
     while i < s.len() {
         if !class::is_kind(kind, s[i]) {
+            return i;
+        }
+        i += 1;
+    }
+    i
+}
+
+// Where the run of bytes of a class ends that begins at a position.
+pub fn past_class(s: &[u8], at: usize, class: Class, classes: &[u8; 256]) -> usize
+    requires { ⌜ now classes ≡ classTable ⌝ }
+    ensures { λ r. ⌜ r ≡ past (isClass class) (now (s .entry)) at ⌝ }
+{
+    let mut i = at;
+    while i < s.len() {
+        if !class::is_class(class, s[i], classes) {
             return i;
         }
         i += 1;
@@ -68,22 +84,23 @@ pub fn is_one_token(s: &[u8]) -> bool
     if s.len() == 0 {
         return false;
     }
-    past_kind(s, 0, Kind::Token) == s.len()
+    let classes = class::classes();
+    past_class(s, 0, Class::Token, &classes) == s.len()
 }
 
 // Whether two texts are the same, byte by byte.
 pub fn are_same(s: &[u8], t: &[u8]) -> bool
     ensures { λ r. ⌜ r ≡ same (now (s .entry)) (now (t .entry)) ⌝ }
 {
+    if s.len() != t.len() {
+        return false;
+    }
     let mut i = 0;
     while i < s.len() {
-        if t.len() <= i {
-            return false;
-        }
         if s[i] != t[i] {
             return false;
         }
         i += 1;
     }
-    t.len() <= i
+    true
 }

@@ -21,7 +21,7 @@ fn put_slot(out: &mut [u8], at: usize, k: usize, m: u8, j: usize, s: Slot) -> us
     let p1 = put_front(out, at, k, j, s);
     let p2 = words::put_number(out, p1, s.end);
     let p3 = words::put_number(out, p2, s.length as u64);
-    let p4 = words::put_number(out, p3, s.number as u64);
+    let p4 = words::put_number(out, p3, s.edition as u64);
     output::bytes(out, p4, b"\n")
 }
 

@@ -1,7 +1,8 @@
 pub mod Shared
 pub mod Steps
+pub mod Looks
+pub mod Seeks
 pub mod Calls
-pub mod Gathers
 pub mod Lent
 pub mod Results
 pub mod ContractLaws

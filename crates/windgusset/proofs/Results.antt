@@ -9,11 +9,11 @@ use denote.Steps.{only}
 use Rattle.record.specs.declared.Record.{Record}
 use Rattle.table.specs.declared.Handled.{Handled}
 use Rattle.windgusset.specs.declared.Told.{Told}
-use Rattle.windgusset.specs.declared.Ran.{Ran}
+use Rattle.windgusset.specs.declared.Served.{Served}
 use Rattle.record.proofs.Record as T
 use Rattle.table.proofs.Handled as TH
 use Rattle.windgusset.proofs.Told as TT
-use Rattle.windgusset.proofs.Ran as TR
+use Rattle.windgusset.proofs.Served as TR
 use Rattle.lent.proofs.Rec.{R}
 use Rattle.windgusset.proofs.Calls.{RS, vals₁₆}
 use Rattle.windgusset.proofs.Lent.{mapped}
@@ -30,8 +30,8 @@ pub is-told : (zs : List Record) (r : ℕ) (v : Val) → Is RS zs (vals₁₆ zs
 is-told zs r v g k = ((vals₁₆ zs, (v ∷ [], tt)), (refl, (mapped R T.the-field (T.the-field .into) (λ x u p. p) 16 zs (vals₁₆ zs) g, (k, tt))))
 
 -- of `handle`
-abbrev pub ran : List Record → Handled → Ran
-ran zs h = record { table = zs; handled = h }
+abbrev pub served : List Record → Handled → Served
+served zs h = record { table = zs; handled = h }
 
-pub is-ran : (zs : List Record) (h : Handled) (v : Val) → Is RS zs (vals₁₆ zs) → Is TH.the-row h (v ∷ []) → Is TR.the-row (ran zs h) (pair-val zs v ∷ [])
-is-ran zs h v g k = ((vals₁₆ zs, (v ∷ [], tt)), (refl, (mapped R T.the-field (T.the-field .into) (λ x u p. p) 16 zs (vals₁₆ zs) g, (k, tt))))
+pub is-served : (zs : List Record) (h : Handled) (v : Val) → Is RS zs (vals₁₆ zs) → Is TH.the-row h (v ∷ []) → Is TR.the-row (served zs h) (pair-val zs v ∷ [])
+is-served zs h v g k = ((vals₁₆ zs, (v ∷ [], tt)), (refl, (mapped R T.the-field (T.the-field .into) (λ x u p. p) 16 zs (vals₁₆ zs) g, (k, tt))))

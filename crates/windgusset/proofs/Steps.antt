@@ -1,5 +1,6 @@
 -- Steps that every walk of this crate takes: operands, a call of a function by its contract, and a result that is known. They say nothing of the crate.
 --     slice, Bytes, Seen   a slice reference's machine value, and what a `&mut [u8]` and a `&[u8]` own
+--     twice                what a shared slice owns is had twice: it is Copy
 --     var, part, behind    a local as an operand, a field of a local, and what a local slice points to. n is the local's place in the context
 --     calls-own            a call by its contract: the caller gets what the result owns, and all that calls-by gives
 --     calls-by             a call by its contract: the caller gets the tokens, the last values, the result's machine value, and the fact that the contract ensures
@@ -18,7 +19,7 @@ use prog.Memory.{fieldOf}
 use prog.Wp.{Heap, Env, Calls, Loops, spotOf}
 use ghost.Atoms.{Atoms}
 use contract.Monad.{fact}
-use types.Kit.{Given, Item, Post, Seq, runs, lands, nth, ‵, raw, some, later, _⊛_, _$_, move, drop, use1, split, pick, await}
+use types.Kit.{Given, Item, Goal, Post, Seq, Step, step, runs, lands, nth, ‵, raw, some, later, _⊛_, _$_, move, drop, use1, split, pick, await}
 use types.Part.{Part, look-in}
 use types.Run.{Finds, Opd, Opds, look, stop, hop, fld, from, load}
 use sound.WpLaws.{FmC}
@@ -27,7 +28,7 @@ use denote.Laws.{Is, Tells, shows}
 use denote.Builtin.{u8}
 use denote.Ref.{RefT, ptr, now}
 use denote.Signature.{typeAt}
-use denote.Slice.{sliceVal, slice-vals, MutSlice, ShrSlice}
+use denote.Slice.{sliceVal, slice-vals, MutSlice, ShrSlice, shr-slice-copy}
 use denote.Steps.{only, peeks, heard}
 use denote.Triple.Entry.{Res, alive}
 use denote.Triple.Spec.{tripleOf}
@@ -43,6 +44,10 @@ Bytes κ x = MutSlice (named 0) κ u8 .own x (slice-vals x)
 
 abbrev pub Seen : Lft → RefT (List ℕ) → Fml
 Seen κ x = ShrSlice (named 0) κ u8 .own x (slice-vals x)
+
+pub twice : {M : Type 1} {𝓤 : URA M} {H : Heap 𝓤} {A : Atoms 𝓤} {K : Type 0} {W : Given 𝓤 H A} {Γ : List (Item 𝓤)} {G : Goal 𝓤 H} → K → (R : RattleType) (κ : Lft) (x : RefT (List (R .Denot)))
+    → Step K W (‵ (ShrSlice (named 0) κ R .own x (slice-vals x)) ∷ ‵ (ShrSlice (named 0) κ R .own x (slice-vals x)) ∷ Γ) G (‵ (ShrSlice (named 0) κ R .own x (slice-vals x)) ∷ Γ) G
+twice {𝓤 = 𝓤} {H = H} {A = A} {W = W} t R κ x = step (λ s. use1 W (‵ (ShrSlice (named 0) κ R .own x (slice-vals x)) ⊛ ‵ (ShrSlice (named 0) κ R .own x (slice-vals x))) (shr-slice-copy 𝓤 H A W (named 0) κ R .twice x (slice-vals x)) $ split t $ s)
 
 module _ {M : Type 1} {𝓤 : URA M} {H : Heap 𝓤} {A : Atoms 𝓤} {K : Type 0} {W : Given 𝓤 H A} {Γ : List (Item 𝓤)} {E : Env 𝓤 H} where
   pub var : K → (n : ℕ) {i : ℕ} {q : Share} {v : Val} → nth 𝓤 H A n Γ ≡ ‵ (fat q (spotOf 𝓤 H E i .0) (spotOf 𝓤 H E i .1) (spotOf 𝓤 H E i .2) v) → Opd K W Γ E (copy (place i [])) v

@@ -38,8 +38,8 @@ pub fn add(records: &mut [Record], store: &mut [u8], address: &[u8], start: u32,
         r (now (records .exit)) (now (store .exit)) ⌝ }
 {
     let n = records.len();
-    let g = lent::gathered(records);
-    let c = table::adding::add_gathered(g, n, store, address, start, spent);
+    let ls = lent::looked(records);
+    let c = table::adding::add_looked(ls, n, store, address, start, spent);
     lent::put_if(records, c.index, c.kept);
     c.result
 }
@@ -57,8 +57,10 @@ pub fn handle(
         r (now (records .exit)) (now (store .exit)) (now (answer .exit)) ⌝ }
 {
     let n = records.len();
-    let g = lent::gathered(records);
-    let c = table::handling::handle_gathered(g, n, store, clock, number, request, answer);
+    let ls = lent::looked(records);
+    let b = table::handling::begin(ls, n, request);
+    let own = lent::record_or_empty(records, b.place);
+    let c = table::handling::finish(b, own, n, store, clock, number, request, answer);
     lent::put_if(records, c.index, c.kept);
     c.handled
 }
@@ -74,9 +76,11 @@ pub fn read_state(
     ensures { λ r. ⌜ StateAs (now (records .entry)) (now (store .entry)) (now (address .entry)) (now (name .entry)) clock r ⌝ }
 {
     let n = records.len();
-    let g = lent::gathered(records);
+    let ls = lent::looked(records);
+    let k = table::looks::seek(address, ls, n);
+    let own = lent::record_or_empty(records, k.place);
     let size = store.len();
-    state::reading::state_gathered(g, n, size, address, name, clock)
+    state::reading::state_at(k, own, n, size, name, clock)
 }
 
 // State read: the result is told, and what is shown is handed back as a part of the store or of the default.
@@ -93,8 +97,10 @@ pub fn read<'a>(
         (now (default .entry)) (now (result .exit)) (now r) ⌝ }
 {
     let n = records.len();
-    let g = lent::gathered(records);
-    state::shown::read_gathered(g, n, store, address, name, clock, default, result)
+    let ls = lent::looked(records);
+    let k = table::looks::seek(address, ls, n);
+    let own = lent::record_or_empty(records, k.place);
+    state::shown::read_at(k, own, n, store, name, clock, default, result)
 }
 
 // The records and the result of `open` or `add` on sixteen records by value.
@@ -104,7 +110,7 @@ pub struct Told {
 }
 
 // The records after `handle` on sixteen records by value, and what it comes back with.
-pub struct Ran {
+pub struct Served {
     pub table: [Record; 16],
     pub handled: Handled,
 }
@@ -148,13 +154,13 @@ pub fn handle_sixteen(
     number: u32,
     request: &[u8],
     answer: &mut [u8],
-) -> Ran
+) -> Served
     ensures { λ r. ⌜ HandledAs rs (now (store .entry)) clock number (now (request .entry)) (now (answer .entry))
         (r .handled) (r .table) (now (store .exit)) (now (answer .exit)) ⌝ }
 {
     let mut t = rs;
     let handled = handle(&mut t, store, clock, number, request, answer);
-    Ran {
+    Served {
         table: t,
         handled: handled,
     }
@@ -170,7 +176,7 @@ pub fn read_state_sixteen(
 ) -> State
     ensures { λ r. ⌜ StateAs rs (now (store .entry)) (now (address .entry)) (now (name .entry)) clock r ⌝ }
 {
-    state::reading::state_gathered(rs, 16, store.len(), address, name, clock)
+    read_state(&rs, store, address, name, clock)
 }
 
 // `read` on sixteen records by value.
@@ -186,5 +192,5 @@ pub fn read_sixteen<'a>(
     ensures { λ r. ⌜ ReadAs rs (now (store .entry)) (now (address .entry)) (now (name .entry)) clock
         (now (default .entry)) (now (result .exit)) (now r) ⌝ }
 {
-    state::shown::read_gathered(rs, 16, store, address, name, clock, default, result)
+    read(&rs, store, address, name, clock, default, result)
 }

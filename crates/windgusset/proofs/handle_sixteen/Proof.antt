@@ -44,13 +44,13 @@ use Rattle.record.proofs.Record.Laws as T′
 use Rattle.table.specs.declared.Handled.{Handled}
 use Rattle.table.proofs.Handled as TH
 use Rattle.table.proofs.Handled.Laws as TH′
-use Rattle.windgusset.proofs.Ran as TR
-use Rattle.windgusset.proofs.Ran.Laws as TR′
+use Rattle.windgusset.proofs.Served as TR
+use Rattle.windgusset.proofs.Served.Laws as TR′
 use Rattle.lent.proofs.Rec.{R, vals, tells, made}
 use Rattle.windgusset.proofs.Steps.{slice, Bytes, Seen, var, part, behind, calls-by}
 use Rattle.windgusset.proofs.Calls.{RS, vals₁₆}
 use Rattle.windgusset.proofs.Lent.{Lent, lends-array, array-back}
-use Rattle.windgusset.proofs.Results.{pair-val, ran, is-ran}
+use Rattle.windgusset.proofs.Results.{pair-val, served, is-served}
 use Rattle.windgusset.proofs.handle as callee
 use Rattle.windgusset.proofs.handle.Symbol as callee-def
 use Rattle.windgusset.proofs.handle.Symbol.{name as #windgusset·handle}
@@ -94,11 +94,11 @@ module _ {M : Type 1} (𝓤 : URA M) (H : Heap 𝓤) (A : Atoms 𝓤) (mem : Mem
       move ! (1 ∷ []) $ fsplit ! $ drop ! $ fsplit ! $ drop ! $ fsplit ! $ drop ! $ fsplit ! $ fsplit ! $ move ! (1 ∷ []) $ feqL ! (λ n-answer.
       move ! (1 ∷ []) $ drop ! $ move ! (3 ∷ 2 ∷ 4 ∷ 1 ∷ 0 ∷ []) $ then h v (zs .0) (zs .1 .0) (zs .1 .1 .1 .1 .1 .0) is e n-store n-answer))))
 
-  exits : (zs : List Record) (h : Handled) (v : Val) (z-store : List ℕ) (z-answer : List ℕ) → Is TR.the-row (ran zs h) (pair-val zs v ∷ []) → HandledAs rs (now x-store) clock number (now x-request) (now x-answer) h zs z-store z-answer → length z-store ≡ length (now x-store) → length z-answer ≡ length (now x-answer) → ent 𝓤 (⋆ 𝓤 H A ((‵ (flft κ₁ q₁) ⊛ ‵ (flft κ₂ q₂) ⊛ ‵ (flft κ₃ q₃) ⊛ ‵ ftrue) ∷ ‵ (finally u8 (name x-store) z-store) ∷ ‵ (finally u8 (name x-answer) z-answer) ∷ [])) (Post (pair-val zs v))
+  exits : (zs : List Record) (h : Handled) (v : Val) (z-store : List ℕ) (z-answer : List ℕ) → Is TR.the-row (served zs h) (pair-val zs v ∷ []) → HandledAs rs (now x-store) clock number (now x-request) (now x-answer) h zs z-store z-answer → length z-store ≡ length (now x-store) → length z-answer ≡ length (now x-answer) → ent 𝓤 (⋆ 𝓤 H A ((‵ (flft κ₁ q₁) ⊛ ‵ (flft κ₂ q₂) ⊛ ‵ (flft κ₃ q₃) ⊛ ‵ ftrue) ∷ ‵ (finally u8 (name x-store) z-store) ∷ ‵ (finally u8 (name x-answer) z-answer) ∷ [])) (Post (pair-val zs v))
   exits zs h v z-store z-answer g e n-store n-answer =
       qed W ((‵ (flft κ₁ q₁) ⊛ ‵ (flft κ₂ q₂) ⊛ ‵ (flft κ₃ q₃) ⊛ ‵ ftrue) ∷ ‵ (finally u8 (name x-store) z-store) ∷ ‵ (finally u8 (name x-answer) z-answer) ∷ []) ∵
-      suffices ! _ (ends-at 𝓤 H A self.ended stayed (self.clauses 𝓤 H A mem run) W (((κ₁, (κ₂, (κ₃, tt))), (q₁, (q₂, (q₃, tt))), tt, a, mach), tt) (pair-val zs v) (ran zs h) (tt, (z-store, (tt, (tt, (tt, (z-answer, tt)))))) (tt, (n-store, (tt, (tt, (tt, (n-answer, tt))))))) $ says ! e $
-      frame ! $ nothing ! $ move ! (2 ∷ 0 ∷ []) $ fjoin ! $ nothing ! $ fjoin ! $ nothing ! $ fjoin ! $ nothing ! $ fjoin ! $ move ! (1 ∷ 0 ∷ []) $ fjoin ! $ nothing ! $ fjoin ! $ frame ! $ owned ! TR.the-row (Is TR.the-row) (LL.makes TR.the-type TR′.the-plain 𝓤 H A) (ran zs h) (pair-val zs v ∷ []) g $ done !
+      suffices ! _ (ends-at 𝓤 H A self.ended stayed (self.clauses 𝓤 H A mem run) W (((κ₁, (κ₂, (κ₃, tt))), (q₁, (q₂, (q₃, tt))), tt, a, mach), tt) (pair-val zs v) (served zs h) (tt, (z-store, (tt, (tt, (tt, (z-answer, tt)))))) (tt, (n-store, (tt, (tt, (tt, (n-answer, tt))))))) $ says ! e $
+      frame ! $ nothing ! $ move ! (2 ∷ 0 ∷ []) $ fjoin ! $ nothing ! $ fjoin ! $ nothing ! $ fjoin ! $ nothing ! $ fjoin ! $ move ! (1 ∷ 0 ∷ []) $ fjoin ! $ nothing ! $ fjoin ! $ frame ! $ owned ! TR.the-row (Is TR.the-row) (LL.makes TR.the-type TR′.the-plain 𝓤 H A) (served zs h) (pair-val zs v ∷ []) g $ done !
 
   walk : (C : Calls 𝓤 H) (Λ : Loops 𝓤 H) → FmC 𝓤 H (W .laws) C → Triple 𝓤 (C #windgusset·handle) (Callee 𝓤 H A mem run)
       → ent 𝓤 (onEntry 𝓤 H A self.signature (κ₁, (κ₂, (κ₃, tt))) (q₁, (q₂, (q₃, tt))) a mach) (WpFn 𝓤 H C Λ code.function (only (vals₁₆ rs) ∷ slice x-store ∷ vint w64 clock ∷ vint w32 number ∷ slice x-request ∷ slice x-answer ∷ []) Post)
@@ -120,10 +120,10 @@ module _ {M : Type 1} (𝓤 : URA M) (H : Heap 𝓤) (A : Atoms 𝓤) (mem : Mem
       move ! (0 ∷ 5 ∷ 1 ∷ []) $ array-back 𝓤 H A W R vals tells 16 l7 ! tt ν δ zs (λ is-zs.
       land ! (from ! (stop !)) (init ! 18 refl (LL.lawful TH.the-type TH′.the-laws 𝓤 H A W .typed h _ is .0)) $
       assigns ! (of-opd ! (var ! 0 refl)) (from ! (stop !)) (init ! 4 refl (array-lawful 𝓤 H A W R (LL.lawful T.the-type T′.the-laws 𝓤 H A W) 16 .typed zs _ is-zs .0)) $
-      assigns ! (agg ! (and-then ! (var ! 4 refl) (and-then ! (var ! 18 refl) (no-more !)))) (from ! (stop !)) (init ! 33 refl (LL.lawful TR.the-type TR′.the-laws 𝓤 H A W .typed (ran zs h) _ (is-ran zs h v is-zs is) .0)) $
+      assigns ! (agg ! (and-then ! (var ! 4 refl) (and-then ! (var ! 18 refl) (no-more !)))) (from ! (stop !)) (init ! 33 refl (LL.lawful TR.the-type TR′.the-laws 𝓤 H A W .typed (served zs h) _ (is-served zs h v is-zs is) .0)) $
       returns ! (look ! 33 refl) $ forget ! 4 refl $ forget ! 6 refl $ forget ! 8 refl $ forget ! 10 refl $ forget ! 12 refl $ forget ! 14 refl $ forget ! 16 refl $ forget ! 18 refl $ forget ! 0 refl $ forget ! 21 refl $ forget ! 23 refl $ forget ! 25 refl $ forget ! 27 refl $ forget ! 29 refl $ forget ! 31 refl $ forget ! 33 refl $
       move ! (33 ∷ 34 ∷ []) $ free1 ! $ move ! (31 ∷ 32 ∷ []) $ free1 ! $ move ! (29 ∷ 30 ∷ []) $ free1 ! $ move ! (27 ∷ 28 ∷ []) $ free1 ! $ move ! (25 ∷ 26 ∷ []) $ free1 ! $ move ! (23 ∷ 24 ∷ []) $ free1 ! $ move ! (21 ∷ 22 ∷ []) $ free1 ! $ move ! (0 ∷ 20 ∷ []) $ free1 ! $ move ! (17 ∷ 18 ∷ []) $ free1 ! $ move ! (15 ∷ 16 ∷ []) $ free1 ! $ move ! (13 ∷ 14 ∷ []) $ free1 ! $ move ! (11 ∷ 12 ∷ []) $ free1 ! $ move ! (9 ∷ 10 ∷ []) $ free1 ! $ move ! (7 ∷ 8 ∷ []) $ free1 ! $ move ! (5 ∷ 6 ∷ []) $ free1 ! $ move ! (3 ∷ 4 ∷ []) $ free1 ! $ free0 ! $
-      keep ! (0 ∷ 1 ∷ 2 ∷ []) $ by ! (exits zs h v z-store z-answer (is-ran zs h v is-zs is) e n-store n-answer))))))))))))))))))))
+      keep ! (0 ∷ 1 ∷ 2 ∷ []) $ by ! (exits zs h v z-store z-answer (is-served zs h v is-zs is) e n-store n-answer))))))))))))))))))))
 
 self-meets : {M : Type 1} (𝓤 : URA M) (H : Heap 𝓤) (A : Atoms 𝓤) → Given 𝓤 H A → (mem : Memory → SProp 𝓤) (run : Routine → Fun 𝓤) (𝓣 : Tables 𝓤 H) → Triple 𝓤 (𝓣 .C #windgusset·handle) (Callee 𝓤 H A mem run)
     → Meets 𝓤 H A self.signature (WpFn 𝓤 H (𝓣 .C) (𝓣 .Λ) code.function) (self.spec 𝓤 H A mem run)

@@ -35,7 +35,7 @@ use denote.Triple.Table.{entered, cited}
 use denote.Triple.Walked.{says, Stays, stay-slice, gave-slice, walkOf, ends-at, walked, goes-slice, goes-gave-slice, walk-meets}
 use Rattle.record.specs.Places.{emptyRecord}
 use Rattle.record.specs.declared.Record.{Record}
-use Rattle.table.specs.Gathered.{emptiedTo, openResult, openStore, emptyAt}
+use Rattle.table.specs.Looked.{emptiedTo, openResult, openStore, emptyAt}
 use Rattle.windgusset.specs.Contracts.{OpenedAs}
 use Rattle.lent.proofs.Rec.{R, val, vals, tells, typed}
 use Rattle.windgusset.proofs.Steps.{slice, Bytes, var, part, behind, calls-by, landed}

@@ -20,7 +20,7 @@ returns : tie.Need-returns
 returns c =
     let l = c .before .before .before in
     let a = l .before .before .before .before .before .before in
-    read-line _ _ (a .args .place) (l .before .part-of .ensures) (l .run-line .ensures) (c .next-number .ensures)
+    read-line _ _ (a .args .progress) (l .before .part-of .ensures) (l .run-line .ensures) (c .next-number .ensures)
 
 pub end-line-spec : {M : Type 1} → statement M
 end-line-spec =

@@ -14,7 +14,7 @@ returns : tie.Need-returns
 returns c =
     let h = c .before .before .before in
     let a = h .before .before .before .before in
-    read-hold (a .args .place) _ (a .pre .0) (a .pre .1) (h .hold-all .ensures)
+    read-hold (a .args .progress) _ (a .pre .0) (a .pre .1) (h .hold-all .ensures)
 
 pub hold-spec : {M : Type 1} → statement M
 hold-spec = tie.close (tie.spec hold-all-requires same-length returns)

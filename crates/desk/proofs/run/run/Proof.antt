@@ -12,12 +12,12 @@ use Rattle.desk.proofs.run.run.Statement.{statement}
 use Rattle.desk.proofs.run.run.Tie as tie
 
 abbrev Inv-loop : tie.InvT-loop
-Inv-loop more chunk₀ line₀ store₀ place₀ turns₀ chunk line store place turns =
+Inv-loop more chunk₀ line₀ store₀ progress₀ turns₀ chunk line store progress turns =
     (length chunk ≡ length chunk₀) × (length line ≡ 8211) × (length store ≡ length store₀)
-    × ((bs : List ℕ) × ReadTo (readOn begun bs) line place store)
+    × ((bs : List ℕ) × ReadTo (readOn begun bs) line progress store)
 
 abbrev μ-loop : tie.MeasureT-loop
-μ-loop more chunk₀ line₀ store₀ place₀ turns₀ chunk line store place turns = turns
+μ-loop more chunk₀ line₀ store₀ progress₀ turns₀ chunk line store progress turns = turns
 
 large-buffer-requires : tie.Need-large-buffer-requires Inv-loop μ-loop
 large-buffer-requires c κs = search needs

@@ -15,10 +15,10 @@ slice-aggregate-put : tie.Need-slice-aggregate-put
 slice-aggregate-put c = search needs
 
 put-requires : tie.Need-put-requires
-put-requires c κs = omega (arith, decimal-twenty (c .before .before .before .before .before .before .before .args .number))
+put-requires c κs = omega (arith, decimal-twenty (c .before .before .before .before .before .before .before .args .nth))
 
 put-shown-requires : tie.Need-put-shown-requires
-put-shown-requires c κs = omega (arith, decimal-twenty (c .before .before .before .before .before .before .before .before .before .before .before .args .number))
+put-shown-requires c κs = omega (arith, decimal-twenty (c .before .before .before .before .before .before .before .before .before .before .before .args .nth))
 
 slice-aggregate-put-2 : tie.Need-slice-aggregate-put-2
 slice-aggregate-put-2 c = search needs
@@ -26,7 +26,7 @@ slice-aggregate-put-2 c = search needs
 put-requires-2 : tie.Need-put-requires-2
 put-requires-2 c κs =
     let a = c .before .before .before .before .before .before .before .before .before .before .before .before .before .before .before .before .args in
-    omega (arith, decimal-twenty (a .number), shown-most (a .s))
+    omega (arith, decimal-twenty (a .nth), shown-most (a .s))
 
 same-length : tie.Need-same-length
 same-length c = search needs

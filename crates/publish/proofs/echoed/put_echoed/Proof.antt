@@ -9,28 +9,28 @@ use Rattle.publish.proofs.FitsLaws.{to-fits}
 use Rattle.publish.proofs.echoed.put_echoed.Statement.{statement}
 use Rattle.publish.proofs.echoed.put_echoed.Tie as tie
 
-put-vias-requires : tie.Need-put-vias-requires
-put-vias-requires c κs =
+put-all-vias-requires : tie.Need-put-all-vias-requires
+put-all-vias-requires c κs =
     let g = c .before .before .before in
-    let t = readable-stands _ _ (g .pre .1) in
+    let t = readable-stands _ _ (g .pre .2) in
     (g .pre .0, t .built, omega (arith, copied-short (g .args .s .now)))
 
 put-once-requires : tie.Need-put-once-requires
 put-once-requires c κs =
     let g = c .before .before .before .before .before .before .before in
-    let t = readable-stands _ _ (g .pre .1) in
+    let t = readable-stands _ _ (g .pre .2) in
     (omega arith, g .pre .0, t .from, omega (arith, copied-short (g .args .s .now)))
 
 put-to-requires : tie.Need-put-to-requires
 put-to-requires c κs =
     let g = c .before .before .before .before .before .before .before .before .before .before .before in
-    let t = readable-stands _ _ (g .pre .1) in
-    (g .pre .0, t .to, omega (arith, copied-short (g .args .s .now)))
+    let t = readable-stands _ _ (g .pre .2) in
+    (g .pre .0, g .pre .1, t .to, omega (arith, copied-short (g .args .s .now)))
 
 put-once-requires-2 : tie.Need-put-once-requires-2
 put-once-requires-2 c κs =
     let g = c .before .before .before .before .before .before .before .before .before .before .before .before .before .before .before in
-    let t = readable-stands _ _ (g .pre .1) in (
+    let t = readable-stands _ _ (g .pre .2) in (
       omega arith,
       g .pre .0,
       t .call-id,
@@ -40,7 +40,7 @@ put-once-requires-2 c κs =
 put-once-requires-3 : tie.Need-put-once-requires-3
 put-once-requires-3 c κs =
     let g = c .before .before .before .before .before .before .before .before .before .before .before .before .before .before .before .before .before .before .before in
-    let t = readable-stands _ _ (g .pre .1) in (
+    let t = readable-stands _ _ (g .pre .2) in (
       omega arith,
       g .pre .0,
       t .cseq,
@@ -58,14 +58,14 @@ returns c =
     let t = i .before .before .before .before in
     let f = t .before .before .before .before in
     let v = f .before .before .before .before in
-    then (v .put-vias .ensures)
+    then (v .put-all-vias .ensures)
     (then (f .put-once .ensures) (then (t .put-to .ensures) (then (i .put-once2 .ensures) (e .put-once3 .ensures))))
 
 pub put-echoed-spec : {M : Type 1} → statement M
 put-echoed-spec =
     tie.close
     (tie.spec
-    put-vias-requires
+    put-all-vias-requires
     put-once-requires
     put-to-requires
     put-once-requires-2

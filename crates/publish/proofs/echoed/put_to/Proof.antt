@@ -13,8 +13,8 @@ put-to-line-requires : tie.Need-put-to-line-requires
 put-to-line-requires c κs =
     let f = c .before .before in
     let p = f .before .before .before .pre in (
-      only-within _ (p .0) To (omega arith) (p .1) (f .seen-at .ensures),
-      rw (only-copied _ (p .0) To (omega arith) (p .1) (f .seen-at .ensures)) at (p .2),
+      only-within _ (p .0) To (omega arith) (p .2) (f .seen-at .ensures),
+      rw (only-copied _ (p .0) To (omega arith) (p .2) (f .seen-at .ensures)) at (p .3),
     )
 
 same-length : tie.Need-same-length
@@ -24,7 +24,7 @@ returns : tie.Need-returns
 returns c =
     let f = c .before .before .before .before .before in
     let p = f .before .before .before .pre in
-    rw (only-tagged _ (p .0) To (omega arith) (p .1) (f .seen-at .ensures) _) (c .before .before .put-to-line .ensures)
+    rw (only-tagged _ (p .0) To (omega arith) (p .2) (f .seen-at .ensures) _ (p .1)) (c .before .before .put-to-line .ensures)
 
 pub put-to-spec : {M : Type 1} → statement M
 put-to-spec = tie.close (tie.spec seen-at-requires put-to-line-requires same-length returns)

@@ -6,12 +6,6 @@ use Rattle.publish.proofs.FitsLaws.{bare-short}
 use Rattle.publish.proofs.echoed.put_to_line.Statement.{statement}
 use Rattle.publish.proofs.echoed.put_to_line.Tie as tie
 
-value-of-requires : tie.Need-value-of-requires
-value-of-requires c κs = search needs
-
-to-value-requires : tie.Need-to-value-requires
-to-value-requires c κs = search needs
-
 enum-told : tie.Need-enum-told
 enum-told c = search needs
 
@@ -23,7 +17,7 @@ enum-told-2 c = search needs
 
 put-with-tag-requires : tie.Need-put-with-tag-requires
 put-with-tag-requires c κs =
-    let a = c .before .before .before .before .before .before .before .args in
+    let a = c .before .before .before .before .before .args in
     omega (arith, bare-short (a .s .now) (a .l))
 
 enum-told-3 : tie.Need-enum-told-3
@@ -37,37 +31,26 @@ same-length c = search needs
 
 returns : tie.Need-returns
 unfolding taggedLine
-returns c =
-    let g = c .before .before .before .before in
-    rw (← g .before .before .before .value-of .ensures, ← g .before .before .to-value .ensures, g .enum-told .given .1)
-    (c .before .before .put-line .ensures)
+returns c = rw (c .before .before .before .before .enum-told .given .1) (c .before .before .put-line .ensures)
 
 same-length-2 : tie.Need-same-length-2
 same-length-2 c = search needs
 
 returns-2 : tie.Need-returns-2
 unfolding taggedLine
-returns-2 c =
-    let g = c .before .before .before .before in
-    rw (← g .before .before .before .value-of .ensures, ← g .before .before .to-value .ensures, g .enum-told2 .given .1)
-    (c .before .before .put-with-tag .ensures)
+returns-2 c = rw (c .before .before .before .before .enum-told2 .given .1) (c .before .before .put-with-tag .ensures)
 
 same-length-3 : tie.Need-same-length-3
 same-length-3 c = search needs
 
 returns-3 : tie.Need-returns-3
 unfolding taggedLine
-returns-3 c =
-    let g = c .before .before .before .before in
-    rw (← g .before .before .before .value-of .ensures, ← g .before .before .to-value .ensures, g .enum-told3 .given .1)
-    (c .before .before .put-line2 .ensures)
+returns-3 c = rw (c .before .before .before .before .enum-told3 .given .1) (c .before .before .put-line2 .ensures)
 
 pub put-to-line-spec : {M : Type 1} → statement M
 put-to-line-spec =
     tie.close
     (tie.spec
-    value-of-requires
-    to-value-requires
     enum-told
     put-line-requires
     enum-told-2

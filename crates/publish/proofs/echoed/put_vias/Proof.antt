@@ -11,16 +11,19 @@ use Rattle.publish.proofs.echoed.put_vias.Statement.{statement}
 use Rattle.publish.proofs.echoed.put_vias.Tie as tie
 
 abbrev Inv-loop : tie.InvT-loop
-Inv-loop buf₀ at s uri p₀ i₀ buf p i = Going buf₀ at s buf p i
+Inv-loop buf₀ at s classes uri p₀ i₀ buf p i = Going buf₀ at s buf p i
 
 abbrev μ-loop : tie.MeasureT-loop
-μ-loop buf₀ at s uri p₀ i₀ buf p i = length s - i
+μ-loop buf₀ at s classes uri p₀ i₀ buf p i = length s - i
+
+classes-requires : tie.Need-classes-requires Inv-loop μ-loop
+classes-requires c κs = search needs
 
 add-i : tie.Need-add-i Inv-loop μ-loop
-add-i c = let p = c .before .before .pre in omega (arith, left-first _ (p .0) (p .1) .within)
+add-i c = let p = c .before .before .before .pre in omega (arith, left-first _ (p .0) (p .1) .within)
 
 loop-holds : tie.Need-loop-holds Inv-loop μ-loop
-loop-holds c = let p = c .before .before .pre in going-first (p .0) (p .1) (p .2)
+loop-holds c = let p = c .before .before .before .pre in going-first (p .0) (p .1) (p .2)
 
 crlf-at-requires : tie.Need-crlf-at-requires Inv-loop μ-loop
 crlf-at-requires c κs = search needs
@@ -35,13 +38,14 @@ enum-told : tie.Need-enum-told Inv-loop μ-loop
 enum-told c = c .match .keys2
 
 same-length : tie.Need-same-length Inv-loop μ-loop
-same-length c = c .before .before .before .before .before .loop .inv .same
+same-length c = c .before .before .before .before .before .before .loop .inv .same
 
 returns : tie.Need-returns Inv-loop μ-loop
 returns c =
     let g = c .before .before in
     absurd
-    (left-some (g .before .before .before .loop .inv .left) (turned-fails (g .before .before .crlf-at .ensures) (g .before .if1 .taken))
+    (left-some (g .before .before .before .before .loop .inv .left)
+    (turned-fails (g .before .before .before .crlf-at .ensures) (g .before .before .if1 .taken))
     (sym (g .header-line .ensures) ∙ c .enum-told .given .1))
 
 put-if-via-requires : tie.Need-put-if-via-requires Inv-loop μ-loop
@@ -49,13 +53,19 @@ put-if-via-requires c κs =
     let g = c .before .before .before .before in
     let e = sym (g .header-line .ensures) ∙ c .before .before .l .given .1 in (
       omega (arith, header-line-within _ _ e .fits),
-      going-room (g .before .before .before .loop .inv) (turned-fails (g .before .before .crlf-at .ensures) (g .before .if1 .taken)) e,
+      going-room (g .before .before .before .before .loop .inv)
+          (turned-fails (g .before .before .before .crlf-at .ensures) (g .before .before .if1 .taken)) e,
     )
 
 add-i-2 : tie.Need-add-i-2 Inv-loop μ-loop
 add-i-2 c =
     let g = c .before .before .before .before .before in
-    omega (arith, header-line-within _ _ (sym (g .before .before .header-line .ensures) ∙ g .l .given .1) .fits)
+    let start = g .before .before .before .before .before .before .before .before .before .before in
+    omega (
+      arith,
+      start .good .1 .1 .0,
+      header-line-within _ _ (sym (g .before .before .header-line .ensures) ∙ g .l .given .1) .fits,
+    )
 
 loop-less : tie.Need-loop-less Inv-loop μ-loop
 loop-less c =
@@ -67,7 +77,8 @@ loop-again : tie.Need-loop-again Inv-loop μ-loop
 loop-again c =
     let l = c .before .before .before .before .before in
     let g = l .before .before in
-    going-on (g .before .before .before .loop .inv) (turned-fails (g .before .before .crlf-at .ensures) (g .before .if1 .taken))
+    going-on (g .before .before .before .before .loop .inv)
+    (turned-fails (g .before .before .before .crlf-at .ensures) (g .before .before .if1 .taken))
     (sym (g .header-line .ensures) ∙ l .l .given .1) (c .before .before .put-if-via .ensures)
 
 same-length-2 : tie.Need-same-length-2 Inv-loop μ-loop
@@ -82,6 +93,7 @@ put-vias-spec =
     (tie.spec
     Inv-loop
     μ-loop
+    classes-requires
     add-i
     loop-holds
     crlf-at-requires

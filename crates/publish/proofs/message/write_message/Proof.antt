@@ -19,14 +19,14 @@ put-echoed-requires : tie.Need-put-echoed-requires
 put-echoed-requires c κs =
     let p = c .before .before .before .before in
     let g = p .before .before .before .before in
-    (g .pre .2, g .pre .3, omega (arith, status-fits (p .status-of .result)))
+    (g .pre .2, g .pre .3, g .pre .4, omega (arith, status-fits (p .status-of .result)))
 
 put-field-lines-requires : tie.Need-put-field-lines-requires
 put-field-lines-requires c κs =
     let n = c .before .before .before .before .before .before .before .before .status-of .result in
     let a = c .before .before .before .before .before .before .before .before .before .before .before .before .args in
     let p = c .before .before .before .before .before .before .before .before .before .before .before .before .pre in
-    let f = echoed-fits _ (a .number) (rw (p .2) at (p .3)) in
+    let f = echoed-fits _ (a .number) (rw (p .2) at (p .4)) in
     omega (arith, status-fits n)
 
 slice-aggregate-put : tie.Need-slice-aggregate-put
@@ -37,7 +37,7 @@ put-requires c κs =
     let n = c .before .before .before .before .before .before .before .before .before .before .before .before .before .status-of .result in
     let a = c .before .before .before .before .before .before .before .before .before .before .before .before .before .before .before .before .before .args in
     let p = c .before .before .before .before .before .before .before .before .before .before .before .before .before .before .before .before .before .pre in
-    let f = echoed-fits _ (a .number) (rw (p .2) at (p .3)) in
+    let f = echoed-fits _ (a .number) (rw (p .2) at (p .4)) in
     omega (arith, status-fits n, fields-fit (a .o))
 
 same-length : tie.Need-same-length

@@ -1,7 +1,6 @@
 -- Without a tag nothing is unmatched, and otherwise the slot found is none of the eight.
 use borrow.Author.Needs.{needs}
 use Rattle.laws.proofs.Tests.{turned-fails, turned-holds}
-use Rattle.publish.specs.Refusals.{isUnmatched}
 use Rattle.publish.proofs.RefusalLaws.{at-least}
 use Rattle.publish.proofs.refusals.is_unmatched.Statement.{statement}
 use Rattle.publish.proofs.refusals.is_unmatched.Tie as tie
@@ -10,20 +9,10 @@ has-match-requires : tie.Need-has-match-requires
 has-match-requires c κs = search needs
 
 returns : tie.Need-returns
-unfolding isUnmatched
 returns c = rw (turned-fails (c .before .has-match .ensures) (c .if1 .taken))
 
-presented-slot-requires : tie.Need-presented-slot-requires
-presented-slot-requires c κs = search needs
-
 returns-2 : tie.Need-returns-2
-unfolding isUnmatched
-returns-2 c =
-    rw (
-      turned-holds (c .before .before .has-match .ensures) (c .before .if1 .left),
-      ← c .presented-slot .ensures,
-    ) (at-least 8 (c .presented-slot .result))
+returns-2 c = rw (turned-holds (c .before .has-match .ensures) (c .if1 .left)) (at-least 8 (c .before .before .args .slot))
 
 pub is-unmatched-spec : {M : Type 1} → statement M
-is-unmatched-spec =
-    tie.close (tie.spec has-match-requires returns presented-slot-requires returns-2)
+is-unmatched-spec = tie.close (tie.spec has-match-requires returns returns-2)

@@ -2,24 +2,24 @@
 use mathlib.Core.Path.{refl, sym, _∙_}
 use borrow.Author.Tests.{lt-ltb, le-ltb}
 use borrow.Author.Needs.{needs}
-use Rattle.laws.specs.First.{firstOf}
 use Rattle.publish.specs.Refusals.{sizeRows}
+use Rattle.publish.specs.Refusal.{refusalIn}
 use Rattle.publish.proofs.refusals.sizes_refusal.Statement.{statement}
 use Rattle.publish.proofs.refusals.sizes_refusal.Tie as tie
 
 returns : tie.Need-returns
-unfolding sizeRows firstOf
+unfolding sizeRows refusalIn
 returns c = rw (lt-ltb _ _ (c .if1 .taken))
 
 is-bad-size-requires : tie.Need-is-bad-size-requires
 is-bad-size-requires c κs = search needs
 
 returns-2 : tie.Need-returns-2
-unfolding sizeRows firstOf
+unfolding sizeRows refusalIn
 returns-2 c = rw (le-ltb _ _ (c .before .before .if1 .left), sym (c .before .is-bad-size .ensures) ∙ c .if2 .taken)
 
 returns-3 : tie.Need-returns-3
-unfolding sizeRows firstOf
+unfolding sizeRows refusalIn
 returns-3 c =
     rw (
       le-ltb _ _ (c .before .before .before .if1 .left),
@@ -28,7 +28,7 @@ returns-3 c =
     ) refl
 
 returns-4 : tie.Need-returns-4
-unfolding sizeRows firstOf
+unfolding sizeRows refusalIn
 returns-4 c =
     rw (
       le-ltb _ _ (c .before .before .before .before .if1 .left),
@@ -38,7 +38,7 @@ returns-4 c =
     )
 
 returns-5 : tie.Need-returns-5
-unfolding sizeRows firstOf
+unfolding sizeRows refusalIn
 returns-5 c =
     rw (
       le-ltb _ _ (c .before .before .before .before .if1 .left),

@@ -11,20 +11,13 @@ use Rattle.publish.proofs.times.requested_time.Tie as tie
 is-absent-requires : tie.Need-is-absent-requires
 is-absent-requires c κs = search needs
 
-event-of-requires : tie.Need-event-of-requires
-event-of-requires c κs = search needs
-
 default-of-requires : tie.Need-default-of-requires
 default-of-requires c κs = search needs
 
 returns : tie.Need-returns
 unfolding requested
 returns c =
-    rw (
-      ← c .before .before .before .is-absent .ensures,
-      c .before .before .if1 .taken,
-      ← c .before .event-of .ensures,
-    ) (c .default-of .ensures)
+    rw (← c .before .before .is-absent .ensures, c .before .if1 .taken, ← c .before .before .before .before .pre) (c .default-of .ensures)
 
 expires-of-requires : tie.Need-expires-of-requires
 expires-of-requires c κs = search needs
@@ -68,7 +61,6 @@ requested-time-spec =
     tie.close
     (tie.spec
     is-absent-requires
-    event-of-requires
     default-of-requires
     returns
     expires-of-requires

@@ -1,34 +1,22 @@
--- The record's bytes up to the first zero are its address: they are well formed, and what stands behind them is zero.
+-- The visible bytes in front are the address where zeros stand behind them; with none there is no address.
 use mathlib.Core.Path.{sym, _∙_}
-use lib.Seq.{length-take-le}
+use native.Mathlib.Omega.{arith}
 use borrow.Author.Needs.{needs}
-use borrow.Author.Tests.{not-true, not-false}
-use Rattle.text.proofs.RunLaws.{first-within}
-use Rattle.record.proofs.AddressLaws.{notZero, has-tested}
+use borrow.Author.Tests.{le-leb, lt-leb}
+use Rattle.record.proofs.AddressLaws.{address-seen}
 use Rattle.record.proofs.address.has_address.Statement.{statement}
 use Rattle.record.proofs.address.has_address.Tie as tie
-use Rattle.record.proofs.address.has_address.Reads as reads
-use Rattle.record.proofs.address.has_address.Lts as lts
 
-slice-aggregate-end-of-address : tie.Need-slice-aggregate-end-of-address
-slice-aggregate-end-of-address c = search needs
+slice-aggregate-past-kind : tie.Need-slice-aggregate-past-kind
+slice-aggregate-past-kind c = search needs
 
-end-of-address-requires : tie.Need-end-of-address-requires
-end-of-address-requires c κs = search needs
-
-array-share-prefix-address : tie.Need-array-share-prefix-address
-array-share-prefix-address c = first-within notZero _ _ (c .end-of-address .ensures)
-
-slice-aggregate-is-address : tie.Need-slice-aggregate-is-address
-slice-aggregate-is-address c = sym (length-take-le _ _ (first-within notZero _ _ (c .before .end-of-address .ensures)))
-
-is-address-requires : tie.Need-is-address-requires
-is-address-requires c κs = search needs
+past-kind-requires : tie.Need-past-kind-requires
+past-kind-requires c κs = search needs
 
 returns : tie.Need-returns
 returns c =
-    let g = c .before in
-    sym (has-tested _ _ (g .before .before .end-of-address .ensures) (sym (g .is-address .ensures) ∙ not-true _ (c .if1 .taken)))
+    let n = c .before .past-kind in
+    sym (address-seen _ _ (omega (arith, slice-aggregate-past-kind (c .before .before))) (n .ensures) (lt-leb 1 (n .result) (omega arith)))
 
 slice-aggregate-is-zero-from : tie.Need-slice-aggregate-is-zero-from
 slice-aggregate-is-zero-from c = search needs
@@ -39,19 +27,9 @@ is-zero-from-requires c κs = search needs
 returns-2 : tie.Need-returns-2
 returns-2 c =
     let g = c .before .before .before in
+    let n = g .past-kind in
     c .is-zero-from .ensures
-    ∙ sym (has-tested _ _ (g .before .before .end-of-address .ensures) (sym (g .is-address .ensures) ∙ not-false _ (c .before .before .if1 .left)))
+    ∙ sym (address-seen _ _ (omega (arith, slice-aggregate-past-kind (g .before))) (n .ensures) (le-leb 1 (n .result) (omega arith)))
 
 pub has-address-spec : {M : Type 1} → statement M
-has-address-spec =
-    tie.close
-    (tie.spec
-    slice-aggregate-end-of-address
-    end-of-address-requires
-    array-share-prefix-address
-    slice-aggregate-is-address
-    is-address-requires
-    returns
-    slice-aggregate-is-zero-from
-    is-zero-from-requires
-    returns-2)
+has-address-spec = tie.close (tie.spec slice-aggregate-past-kind past-kind-requires returns slice-aggregate-is-zero-from is-zero-from-requires returns-2)

@@ -10,11 +10,11 @@ use Rattle.record.proofs.slots.better.Statement.{statement}
 use Rattle.record.proofs.slots.better.Tie as tie
 
 -- three tests decide it: whether the slot counts, whether none was found before, and whether its number is not higher
-tested : (counts : Bool) (best : Best) (i number : ℕ) → {c none low : Bool} → counts ≡ c → eqb (best .slot) 8 ≡ none
-    → leb number (best .number) ≡ low
-    → pick counts (pick (not (eqb (best .slot) 8) && leb number (best .number)) best (record { slot = i; number = number })) best
-    ≡ pick c (pick (not none && low) best (record { slot = i; number = number })) best
-tested counts best i number e f h = rw (e, f, h)
+tested : (counts : Bool) (best : Best) (i edition : ℕ) → {c none low : Bool} → counts ≡ c → eqb (best .slot) 8 ≡ none
+    → leb edition (best .edition) ≡ low
+    → pick counts (pick (not (eqb (best .slot) 8) && leb edition (best .edition)) best (record { slot = i; edition = edition })) best
+    ≡ pick c (pick (not none && low) best (record { slot = i; edition = edition })) best
+tested counts best i edition e f h = rw (e, f, h)
 
 returns : tie.Need-returns
 returns c = sym (tested _ _ _ _ (not-true (c .before .args .counts) (c .if1 .taken)) refl refl)

@@ -7,9 +7,6 @@ use borrow.Author.Needs.{needs}
 use Rattle.request.proofs.fields.body_of.Statement.{statement}
 use Rattle.request.proofs.fields.body_of.Tie as tie
 
-body-length-requires : tie.Need-body-length-requires
-body-length-requires c κs = search needs
-
 sub-result : tie.Need-sub-result
 sub-result c = search needs
 
@@ -23,25 +20,19 @@ returns : tie.Need-returns
 returns c = sym (body-none _ _ (c .before .if1 .taken))
 
 add-e : tie.Need-add-e
-add-e c =
-    omega (
-      arith,
-      c .before .body-length .ensures,
-      body-ends (c .before .before .before .args .s .now) (c .before .before .before .args .h) (c .if1 .left),
-    )
+add-e c = omega (arith, body-ends (c .before .before .args .s .now) (c .before .before .args .h) (c .if1 .left))
 
 part-of-requires : tie.Need-part-of-requires
 part-of-requires c κs = search needs
 
 returns-2 : tie.Need-returns-2
 unfolding body
-returns-2 c = rw (← c .before .before .body-length .ensures) (c .part-of .ensures)
+returns-2 c = rw (← c .before .before .before .pre) (c .part-of .ensures)
 
 pub body-of-spec : {M : Type 1} → statement M
 body-of-spec =
     tie.close
     (tie.spec
-    body-length-requires
     sub-result
     part-result-start
     part-result-end

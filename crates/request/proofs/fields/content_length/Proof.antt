@@ -10,13 +10,13 @@ bytes-there-requires c κs = search needs
 value-named-requires : tie.Need-value-named-requires
 value-named-requires c κs = search needs
 
-number-requires : tie.Need-number-requires
-number-requires c κs = search needs
+decimal-requires : tie.Need-decimal-requires
+decimal-requires c κs = search needs
 
 returns : tie.Need-returns
 unfolding contentLength
-returns c = rw (← c .before .before .bytes-there .ensures, ← c .before .value-named .ensures) (c .number .ensures)
+returns c = rw (← c .before .before .bytes-there .ensures, ← c .before .value-named .ensures) (c .decimal .ensures)
 
 pub content-length-spec : {M : Type 1} → statement M
 content-length-spec =
-    tie.close (tie.spec bytes-there-requires value-named-requires number-requires returns)
+    tie.close (tie.spec bytes-there-requires value-named-requires decimal-requires returns)

@@ -15,11 +15,11 @@ past-kind-requires c κs = search needs
 past-kind-requires-2 : tie.Need-past-kind-requires-2
 past-kind-requires-2 c κs = search needs
 
-slice-aggregate-number : tie.Need-slice-aggregate-number
-slice-aggregate-number c = sym (length-take-le _ _ (first-within _ _ _ (c .before .before .past-kind .ensures)))
+slice-aggregate-decimal : tie.Need-slice-aggregate-decimal
+slice-aggregate-decimal c = sym (length-take-le _ _ (first-within _ _ _ (c .before .before .past-kind .ensures)))
 
-number-requires : tie.Need-number-requires
-number-requires c κs = search needs
+decimal-requires : tie.Need-decimal-requires
+decimal-requires c κs = search needs
 
 is-fit-requires : tie.Need-is-fit-requires
 is-fit-requires c κs = search needs
@@ -28,7 +28,7 @@ returns : tie.Need-returns
 returns c =
     rw (
       cseq-is _ _ _ (c .before .before .before .before .before .past-kind .ensures)
-          (c .before .before .before .before .past-kind2 .ensures) (c .before .before .number .ensures) _,
+          (c .before .before .before .before .past-kind2 .ensures) (c .before .before .decimal .ensures) _,
       turned-fails (c .before .is-fit .ensures) (c .if1 .taken),
     )
 
@@ -36,7 +36,7 @@ returns-2 : tie.Need-returns-2
 returns-2 c =
     rw (
       cseq-is _ _ _ (c .before .before .before .before .before .before .past-kind .ensures)
-          (c .before .before .before .before .before .past-kind2 .ensures) (c .before .before .before .number .ensures) _,
+          (c .before .before .before .before .before .past-kind2 .ensures) (c .before .before .before .decimal .ensures) _,
       turned-holds (c .before .before .is-fit .ensures) (c .before .if1 .left),
       le-ltb _ _ (c .if2 .taken),
     )
@@ -59,7 +59,7 @@ returns-3 : tie.Need-returns-3
 returns-3 c =
     rw (
       cseq-is _ _ _ (c .before .before .before .before .before .before .before .before .past-kind .ensures)
-          (c .before .before .before .before .before .before .before .past-kind2 .ensures) (c .before .before .before .before .before .number .ensures) _,
+          (c .before .before .before .before .before .before .before .past-kind2 .ensures) (c .before .before .before .before .before .decimal .ensures) _,
       turned-holds (c .before .before .before .before .is-fit .ensures) (c .before .before .before .if1 .left),
       lt-ltb _ _ (c .before .before .if2 .left),
       ← rest-all,
@@ -71,8 +71,8 @@ is-cseq-spec =
     (tie.spec
     past-kind-requires
     past-kind-requires-2
-    slice-aggregate-number
-    number-requires
+    slice-aggregate-decimal
+    decimal-requires
     is-fit-requires
     returns
     returns-2

@@ -13,11 +13,11 @@ use Rattle.request.proofs.reading.header_lines.Statement.{statement}
 use Rattle.request.proofs.reading.header_lines.Tie as tie
 
 abbrev Inv-loop : tie.InvT-loop
-Inv-loop s method uri at seen₀ i₀ left₀ seen i left =
+Inv-loop s method uri at classes seen₀ i₀ left₀ seen i left =
     withHeaders s method uri (headerLines 64 s at) ≡ goesOn s method uri seen (headerLines left s i)
 
 abbrev μ-loop : tie.MeasureT-loop
-μ-loop s method uri at seen₀ i₀ left₀ seen i left = left
+μ-loop s method uri at classes seen₀ i₀ left₀ seen i left = left
 
 zero-seen-requires : tie.Need-zero-seen-requires Inv-loop μ-loop
 zero-seen-requires c κs = search needs
@@ -28,8 +28,8 @@ loop-holds c = rw (c .zero-seen .ensures) (goes-start _ _ _ _)
 crlf-at-requires : tie.Need-crlf-at-requires Inv-loop μ-loop
 crlf-at-requires c κs = search needs
 
-add-t15 : tie.Need-add-t15 Inv-loop μ-loop
-add-t15 c = omega (arith, crlf-within _ _ (sym (c .before .crlf-at .ensures) ∙ c .if1 .taken))
+add-t16 : tie.Need-add-t16 Inv-loop μ-loop
+add-t16 c = omega (arith, crlf-within _ _ (sym (c .before .crlf-at .ensures) ∙ c .if1 .taken))
 
 returns : tie.Need-returns Inv-loop μ-loop
 returns c =
@@ -104,8 +104,8 @@ loop-again c =
 crlf-at-requires-2 : tie.Need-crlf-at-requires-2 Inv-loop μ-loop
 crlf-at-requires-2 c κs = search needs
 
-add-t26 : tie.Need-add-t26 Inv-loop μ-loop
-add-t26 c = omega (arith, crlf-within _ _ (sym (c .before .crlf-at2 .ensures) ∙ c .if2 .taken))
+add-t27 : tie.Need-add-t27 Inv-loop μ-loop
+add-t27 c = omega (arith, crlf-within _ _ (sym (c .before .crlf-at2 .ensures) ∙ c .if2 .taken))
 
 returns-3 : tie.Need-returns-3 Inv-loop μ-loop
 returns-3 c =
@@ -129,7 +129,7 @@ header-lines-spec =
     zero-seen-requires
     loop-holds
     crlf-at-requires
-    add-t15
+    add-t16
     returns
     header-line-requires
     enum-known-l
@@ -148,7 +148,7 @@ header-lines-spec =
     loop-less
     loop-again
     crlf-at-requires-2
-    add-t26
+    add-t27
     returns-3
     not-built-requires-2
     returns-4)

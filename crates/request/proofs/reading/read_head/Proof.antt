@@ -5,6 +5,9 @@ use Rattle.request.specs.Head.{withFirstLine, headOf}
 use Rattle.request.proofs.reading.read_head.Statement.{statement}
 use Rattle.request.proofs.reading.read_head.Tie as tie
 
+classes-requires : tie.Need-classes-requires
+classes-requires c κs = search needs
+
 first-line-requires : tie.Need-first-line-requires
 first-line-requires c κs = search needs
 
@@ -27,12 +30,13 @@ header-lines-requires c κs = search needs
 returns-2 : tie.Need-returns-2
 unfolding headOf withFirstLine
 returns-2 c =
-    rw (sym (c .before .before .before .before .first-line .ensures) ∙ c .before .before .method .given .1) (c .header-lines .ensures)
+    rw (sym (c .before .before .before .before .before .first-line .ensures) ∙ c .before .before .before .method .given .1) (c .header-lines .ensures)
 
 pub read-head-spec : {M : Type 1} → statement M
 read-head-spec =
     tie.close
     (tie.spec
+    classes-requires
     first-line-requires
     enum-known-method
     enum-told

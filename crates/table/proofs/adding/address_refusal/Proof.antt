@@ -1,6 +1,5 @@
 -- The three tests are asked in the order of the definition, and the first that refuses is the answer.
 use mathlib.Core.Path.{refl, sym}
-use native.Mathlib.Omega.{arith}
 use borrow.Author.Tests.{lt-ltb, le-ltb}
 use borrow.Author.Needs.{needs}
 use Rattle.laws.proofs.Tests.{turned-fails, turned-holds}
@@ -13,17 +12,16 @@ is-address-requires c κs = search needs
 
 returns : tie.Need-returns
 returns c =
-    sym (address-asked _ _ _ (omega arith) (turned-fails (c .before .is-address .ensures) (c .if1 .taken)) refl refl refl refl)
-
-place-for-requires : tie.Need-place-for-requires
-place-for-requires c κs = search needs
+    let a = c .before in
+    sym (address-asked _ _ _ (turned-fails (a .is-address .ensures) (c .if1 .taken)) (a .before .before .pre .1) refl refl refl)
 
 returns-2 : tie.Need-returns-2
 returns-2 c =
-    let g = c .before .before in
+    let g = c .before in
+    let a = g .before in
     sym
-    (address-asked _ _ _ (omega arith) (turned-holds (g .before .is-address .ensures) (g .if1 .left))
-    (c .before .place-for .ensures) (lt-ltb _ _ (c .if2 .taken)) refl refl)
+    (address-asked _ _ _ (turned-holds (a .is-address .ensures) (g .if1 .left)) (a .before .before .pre .1) (lt-ltb _ _ (c .if2 .taken))
+    refl refl)
 
 lowest-unused-requires : tie.Need-lowest-unused-requires
 lowest-unused-requires c κs = search needs
@@ -31,27 +29,21 @@ lowest-unused-requires c κs = search needs
 returns-3 : tie.Need-returns-3
 returns-3 c =
     let f = c .before .before in
-    let g = f .before .before in
+    let g = f .before in
+    let a = g .before in
     sym
-    (address-asked _ _ _ (omega arith) (turned-holds (g .before .is-address .ensures) (g .if1 .left))
-    (f .before .place-for .ensures) (le-ltb _ _ (f .if2 .left)) (c .before .lowest-unused .ensures) (le-ltb _ _ (c .if3 .taken)))
+    (address-asked _ _ _ (turned-holds (a .is-address .ensures) (g .if1 .left)) (a .before .before .pre .1) (le-ltb _ _ (f .if2 .left))
+    (c .before .lowest-unused .ensures) (le-ltb _ _ (c .if3 .taken)))
 
 returns-4 : tie.Need-returns-4
 returns-4 c =
     let f = c .before .before in
-    let g = f .before .before in
+    let g = f .before in
+    let a = g .before in
     sym
-    (address-asked _ _ _ (omega arith) (turned-holds (g .before .is-address .ensures) (g .if1 .left))
-    (f .before .place-for .ensures) (le-ltb _ _ (f .if2 .left)) (c .before .lowest-unused .ensures) (lt-ltb _ _ (c .if3 .left)))
+    (address-asked _ _ _ (turned-holds (a .is-address .ensures) (g .if1 .left)) (a .before .before .pre .1) (le-ltb _ _ (f .if2 .left))
+    (c .before .lowest-unused .ensures) (lt-ltb _ _ (c .if3 .left)))
 
 pub address-refusal-spec : {M : Type 1} → statement M
 address-refusal-spec =
-    tie.close
-    (tie.spec
-    is-address-requires
-    returns
-    place-for-requires
-    returns-2
-    lowest-unused-requires
-    returns-3
-    returns-4)
+    tie.close (tie.spec is-address-requires returns returns-2 lowest-unused-requires returns-3 returns-4)

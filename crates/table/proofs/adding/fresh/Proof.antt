@@ -8,7 +8,7 @@ use borrow.Author.Needs.{needs}
 use Rattle.record.specs.declared.Record.{Record}
 use Rattle.record.specs.declared.Slot.{Slot}
 use Rattle.table.specs.Add.{freshRecord}
-use Rattle.table.specs.Gathered.{entryOf}
+use Rattle.table.specs.Looked.{entryOf}
 use Rattle.table.proofs.adding.fresh.Statement.{statement}
 use Rattle.table.proofs.adding.fresh.Tie as tie
 

@@ -1,4 +1,4 @@
--- Where the outcome is silent nothing is due and nothing is written; otherwise the message is due, and the request is readable.
+-- Where the outcome is silent nothing is due and nothing is written; otherwise the message is due, and what writing it asks holds.
 use mathlib.Core.Path.{sym, _∙_}
 use borrow.Author.Needs.{needs}
 use Rattle.table.proofs.handling.put_answer.Statement.{statement}
@@ -13,8 +13,7 @@ returns c =
 
 write-message-requires : tie.Need-write-message-requires
 write-message-requires c κs =
-    let p = c .before .before .before .before .before .pre in
-    (p .0, p .1, p .2, p .3 (sym (c .before .before .is-silent .ensures) ∙ c .before .if1 .left))
+    c .before .before .before .before .before .pre (sym (c .before .before .is-silent .ensures) ∙ c .before .if1 .left)
 
 same-length : tie.Need-same-length
 same-length c = search needs

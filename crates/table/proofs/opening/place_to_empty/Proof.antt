@@ -1,6 +1,6 @@
 -- The result is asked as the definition asks it.
 use borrow.Author.Tests.{eq-eqb, ne-eqb}
-use Rattle.table.specs.Gathered.{emptyAt}
+use Rattle.table.specs.Looked.{emptyAt}
 use Rattle.table.proofs.opening.place_to_empty.Statement.{statement}
 use Rattle.table.proofs.opening.place_to_empty.Tie as tie
 

@@ -1,18 +1,16 @@
--- A byte's class is 2 for the blanks alone.
-use mathlib.Core.Path.{refl}
-use lib.Dec.{eqb}
-use borrow.Author.Needs.{needs}
-use Rattle.text.specs.Class.{classOf, isToken, isDigit, isLetter, isBlank, isValue}
-use Rattle.text.proofs.ClassLaws.{asked}
+-- The byte is compared with a space and with a tab.
+use borrow.Author.Tests.{eq-eqb, ne-eqb}
+use Rattle.text.specs.Class.{isBlank}
 use Rattle.text.proofs.class.is_blank.Statement.{statement}
 use Rattle.text.proofs.class.is_blank.Tie as tie
 
-class-of-requires : tie.Need-class-of-requires
-class-of-requires c κs = search needs
-
 returns : tie.Need-returns
-unfolding classOf isToken isDigit isLetter isBlank isValue
-returns c = asked (λ x. eqb x 2) isBlank refl _ (c .before .args .b) (c .class-of .ensures) (search needs)
+unfolding isBlank
+returns c = rw (eq-eqb _ _ (c .if1 .taken))
+
+returns-2 : tie.Need-returns-2
+unfolding isBlank
+returns-2 c = rw (ne-eqb _ _ (c .if1 .left))
 
 pub is-blank-spec : {M : Type 1} → statement M
-is-blank-spec = tie.close (tie.spec class-of-requires returns)
+is-blank-spec = tie.close (tie.spec returns returns-2)

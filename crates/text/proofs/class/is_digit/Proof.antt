@@ -1,18 +1,16 @@
--- A byte's class is at least 4 for the digits alone.
-use mathlib.Core.Path.{refl}
-use lib.Dec.{leb}
-use borrow.Author.Needs.{needs}
-use Rattle.text.specs.Class.{classOf, isToken, isDigit, isLetter, isBlank, isValue}
-use Rattle.text.proofs.ClassLaws.{asked}
+-- Each of the two tests is one bound of the digits.
+use borrow.Author.Tests.{lt-leb, le-leb}
+use Rattle.text.specs.Class.{isDigit}
 use Rattle.text.proofs.class.is_digit.Statement.{statement}
 use Rattle.text.proofs.class.is_digit.Tie as tie
 
-class-of-requires : tie.Need-class-of-requires
-class-of-requires c κs = search needs
-
 returns : tie.Need-returns
-unfolding classOf isToken isDigit isLetter isBlank isValue
-returns c = asked (leb 4) isDigit refl _ (c .before .args .b) (c .class-of .ensures) (search needs)
+unfolding isDigit
+returns c = rw (lt-leb _ _ (c .if1 .taken))
+
+returns-2 : tie.Need-returns-2
+unfolding isDigit
+returns-2 c = rw (le-leb _ _ (c .if1 .left))
 
 pub is-digit-spec : {M : Type 1} → statement M
-is-digit-spec = tie.close (tie.spec class-of-requires returns)
+is-digit-spec = tie.close (tie.spec returns returns-2)

@@ -6,76 +6,52 @@ use Rattle.text.proofs.class.is_kind.Tie as tie
 enum-told : tie.Need-enum-told
 enum-told c = search needs
 
-is-token-requires : tie.Need-is-token-requires
-is-token-requires c κs = search needs
+is-digit-requires : tie.Need-is-digit-requires
+is-digit-requires c κs = search needs
 
 enum-told-2 : tie.Need-enum-told-2
 enum-told-2 c = search needs
 
-is-digit-requires : tie.Need-is-digit-requires
-is-digit-requires c κs = search needs
+is-blank-requires : tie.Need-is-blank-requires
+is-blank-requires c κs = search needs
 
 enum-told-3 : tie.Need-enum-told-3
 enum-told-3 c = search needs
 
-is-blank-requires : tie.Need-is-blank-requires
-is-blank-requires c κs = search needs
-
-enum-told-4 : tie.Need-enum-told-4
-enum-told-4 c = search needs
-
-is-value-requires : tie.Need-is-value-requires
-is-value-requires c κs = search needs
-
-enum-told-5 : tie.Need-enum-told-5
-enum-told-5 c = search needs
-
 is-visible-requires : tie.Need-is-visible-requires
 is-visible-requires c κs = search needs
 
-enum-told-6 : tie.Need-enum-told-6
-enum-told-6 c = search needs
+enum-told-4 : tie.Need-enum-told-4
+enum-told-4 c = search needs
 
 is-plain-requires : tie.Need-is-plain-requires
 is-plain-requires c κs = search needs
 
 returns : tie.Need-returns
-returns c = rw (c .before .enum-told .given .1) (c .is-token .ensures)
+returns c = rw (c .before .enum-told .given .1) (c .is-digit .ensures)
 
 returns-2 : tie.Need-returns-2
-returns-2 c = rw (c .before .enum-told2 .given .1) (c .is-digit .ensures)
+returns-2 c = rw (c .before .enum-told2 .given .1) (c .is-blank .ensures)
 
 returns-3 : tie.Need-returns-3
-returns-3 c = rw (c .before .enum-told3 .given .1) (c .is-blank .ensures)
+returns-3 c = rw (c .before .enum-told3 .given .1) (c .is-visible .ensures)
 
 returns-4 : tie.Need-returns-4
-returns-4 c = rw (c .before .enum-told4 .given .1) (c .is-value .ensures)
-
-returns-5 : tie.Need-returns-5
-returns-5 c = rw (c .before .enum-told5 .given .1) (c .is-visible .ensures)
-
-returns-6 : tie.Need-returns-6
-returns-6 c = rw (c .before .enum-told6 .given .1) (c .is-plain .ensures)
+returns-4 c = rw (c .before .enum-told4 .given .1) (c .is-plain .ensures)
 
 pub is-kind-spec : {M : Type 1} → statement M
 is-kind-spec =
     tie.close
     (tie.spec
     enum-told
-    is-token-requires
-    enum-told-2
     is-digit-requires
-    enum-told-3
+    enum-told-2
     is-blank-requires
-    enum-told-4
-    is-value-requires
-    enum-told-5
+    enum-told-3
     is-visible-requires
-    enum-told-6
+    enum-told-4
     is-plain-requires
     returns
     returns-2
     returns-3
-    returns-4
-    returns-5
-    returns-6)
+    returns-4)

@@ -8,11 +8,14 @@ use Rattle.text.proofs.runs.is_one_token.Tie as tie
 returns : tie.Need-returns
 returns c = sym (token-none _ (c .if1 .taken))
 
-past-kind-requires : tie.Need-past-kind-requires
-past-kind-requires c κs = search needs
+classes-requires : tie.Need-classes-requires
+classes-requires c κs = search needs
+
+past-class-requires : tie.Need-past-class-requires
+past-class-requires c κs = search needs
 
 returns-2 : tie.Need-returns-2
-returns-2 c = token-run _ _ (c .before .if1 .left) (c .past-kind .ensures)
+returns-2 c = token-run _ _ (c .before .before .before .if1 .left) (c .past-class .ensures)
 
 pub is-one-token-spec : {M : Type 1} → statement M
-is-one-token-spec = tie.close (tie.spec returns past-kind-requires returns-2)
+is-one-token-spec = tie.close (tie.spec returns classes-requires past-class-requires returns-2)
