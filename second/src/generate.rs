@@ -4,10 +4,11 @@
 mod attempt;
 mod draft;
 mod faults;
+pub mod for_table;
 mod lines;
 mod mutations;
 mod oddities;
-mod random;
+pub mod random;
 mod reading_aims;
 mod reading_names;
 mod readings;
@@ -31,7 +32,8 @@ use faults::Fault;
 use random::Random;
 use reading_aims::must_wait;
 use readings::Want;
-use world::{World, CROWD, FULL, LATE};
+use world::World;
+pub use world::{CROWD, FULL, LATE};
 
 #[derive(Clone, Copy)]
 enum Idea {

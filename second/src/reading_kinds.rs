@@ -111,7 +111,7 @@ impl<'a> Case<'a> {
     }
 
     fn addresses(&self) -> impl Iterator<Item = &'a [u8]> {
-        let in_use = self.records.iter().filter(|record| record.in_use);
+        let in_use = self.records.iter().filter(|record| record.is_in_use());
         in_use.map(|record| record.address())
     }
 

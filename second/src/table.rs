@@ -13,6 +13,10 @@ pub const BODY_SIZE: usize = 512;
 pub const PART_SIZE: usize = SLOTS * BODY_SIZE;
 pub const CLOCK_LIMIT: u64 = 1_000_000_000_000;
 
+/// The marks of a record. Any other is no mark, and not sound.
+pub const UNUSED: u8 = 0;
+pub const IN_USE: u8 = 1;
+
 #[derive(Clone, Copy, Debug, PartialEq, Eq)]
 pub struct Slot {
     pub package: usize,
@@ -39,7 +43,8 @@ impl Slot {
 
 #[derive(Clone, Copy, Debug, PartialEq, Eq)]
 pub struct Record {
-    pub in_use: bool,
+    /// In use or not.
+    pub mark: u8,
     /// Ends at its first zero byte, if there is one.
     pub address: [u8; ADDRESS_SIZE],
     pub start: u32,
@@ -52,7 +57,7 @@ pub struct Record {
 
 impl Record {
     pub const ZERO: Record = Record {
-        in_use: false,
+        mark: UNUSED,
         address: [0; ADDRESS_SIZE],
         start: 0,
         spent: 0,
@@ -60,6 +65,10 @@ impl Record {
         map: 0,
         slots: [Slot::ZERO; SLOTS],
     };
+
+    pub fn is_in_use(&self) -> bool {
+        self.mark == IN_USE
+    }
 
     pub fn address(&self) -> &[u8] {
         let end = self.address.iter().position(|&byte| byte == 0);
@@ -134,7 +143,7 @@ pub fn is_well_formed(address: &[u8]) -> bool {
 pub fn record_of(records: &[Record], address: &[u8]) -> Option<usize> {
     records
         .iter()
-        .position(|record| record.in_use && record.address() == address)
+        .position(|record| record.is_in_use() && record.address() == address)
 }
 
 /// Opening empties all records and zeroes the store.
@@ -161,7 +170,7 @@ pub fn add(records: &mut [Record], store: &mut [u8], start: u32, spent: u32, add
     if record_of(records, address).is_some() {
         return ADDRESS_THERE_ALREADY;
     }
-    match records.iter().position(|record| !record.in_use) {
+    match records.iter().position(|record| record.mark == UNUSED) {
         None => NO_UNUSED_RECORD,
         Some(r) => {
             records[r] = added(start, spent, address);
@@ -173,7 +182,7 @@ pub fn add(records: &mut [Record], store: &mut [u8], start: u32, spent: u32, add
 
 fn added(start: u32, spent: u32, address: &[u8]) -> Record {
     let mut record = Record {
-        in_use: true,
+        mark: IN_USE,
         start,
         spent,
         ..Record::ZERO
@@ -194,7 +203,7 @@ mod tests {
     fn opening_empties_everything() {
         let (mut records, mut store) = opened(2);
         records[1].spent = 7;
-        records[1].in_use = true;
+        records[1].mark = 200;
         records[1].latest = u64::MAX;
         store[8191] = 1;
         assert_eq!(open(&mut records, &mut store), DONE);
@@ -228,7 +237,7 @@ mod tests {
         records[0].latest = 5;
         assert_eq!(add(&mut records, &mut store, 3, 4, b"ann"), DONE);
         let ann = Record {
-            in_use: true,
+            mark: IN_USE,
             start: 3,
             spent: 4,
             ..records[0]

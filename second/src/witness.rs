@@ -45,7 +45,7 @@ fn witness_lines(bench: &Bench, message_length: usize) -> String {
     let mut text = format!("  answer {}\n", hex_or_dash(message));
     text.push_str(&format!("  past {}\n", checksum_text(past)));
     for (r, record) in bench.records.iter().enumerate() {
-        if record.in_use {
+        if record.is_in_use() {
             text.push_str(&record_lines(r, record, part(&bench.store, r)));
         }
     }

@@ -14,6 +14,7 @@ use denote.Struct.Laws as LL
 use Rattle.laws.specs.Choose.{pick}
 use Rattle.laws.specs.Lists.{every, pairwise, those, placeOf}
 use Rattle.laws.proofs.Tests.{and-left, and-right, and-both, every-head, every-tail, every-cons, every-those}
+use Rattle.record.specs.Places.{isInUse}
 use Rattle.record.specs.Address.{addressOf, hasAddress, isFor}
 use Rattle.record.specs.Sound.{isSound, addressesDiffer, allSound}
 use Rattle.record.specs.declared.Record.{Record}
@@ -90,7 +91,7 @@ unfolding isLookFor isFor addressOf lookOf
 place-looks a rs = place-map lookOf (isLookFor a) rs
 
 -- where the first unused record stands
-pub unused-looks : (rs : List Record) → placeOf (λ l. not (l .used)) (map lookOf rs) ≡ placeOf (λ r. not (r .used)) rs
+pub unused-looks : (rs : List Record) → placeOf (λ l. not (l .used)) (map lookOf rs) ≡ placeOf (λ r. not (isInUse r)) rs
 unfolding lookOf
 unused-looks rs = place-map lookOf (λ l. not (l .used)) rs
 
@@ -119,7 +120,7 @@ abbrev holds : Record → Bool
 holds r = hasAddress r && isLong (lookOf r)
 
 -- a sound record in use holds one where its look has 64 bytes
-sound-holds : (r : Record) → (isSound r && isLong (lookOf r)) ≡ true → r .used ≡ true → holds r ≡ true
+sound-holds : (r : Record) → (isSound r && isLong (lookOf r)) ≡ true → isInUse r ≡ true → holds r ≡ true
 sound-holds r e u = and-both (hasAddress r) _ (sound-used r (and-left (isSound r) _ e) u) (and-right (isSound r) _ e)
 
 -- the looks at two such records differ as their addresses do
@@ -139,8 +140,8 @@ looks-sound rs e =
     long = sym (every-map lookOf isLong rs) ∙ e
 
     go : (b : Bool) → every isSound rs ≡ b
-        → (b && pairwise (λ r t. looksDiffer (lookOf r) (lookOf t)) (those (λ r. r .used) rs)) ≡ (b && pairwise addressesDiffer (those (λ r. r .used) rs))
+        → (b && pairwise (λ r t. looksDiffer (lookOf r) (lookOf t)) (those isInUse rs)) ≡ (b && pairwise addressesDiffer (those isInUse rs))
     go true s =
         let both = every-both isSound (λ r. isLong (lookOf r)) rs ∙ and-both _ _ s long in
-        pairwise-agree _ addressesDiffer holds differ-same _ (every-those _ holds (λ r. r .used) rs sound-holds both)
+        pairwise-agree _ addressesDiffer holds differ-same _ (every-those _ holds isInUse rs sound-holds both)
     go false s = refl

@@ -6,6 +6,7 @@ use mathlib.Core.List.{List, map}
 use lib.Dec.{eqb}
 use Rattle.laws.specs.Lists.{every, pairwise, those, same}
 use Rattle.text.specs.Runs.{front}
+use Rattle.record.specs.Places.{isInUse}
 use Rattle.record.specs.Address.{sameAddress}
 use Rattle.record.specs.Sound.{isSound}
 use Rattle.record.specs.declared.Record.{Record}
@@ -14,7 +15,7 @@ use Rattle.lent.specs.declared.look.Look.{Look}
 
 -- the look at a record
 unfoldable pub lookOf : Record → Look
-lookOf r = record { used = r .used; sound = isSound r; address = r .address }
+lookOf r = record { used = isInUse r; sound = isSound r; address = r .address }
 
 -- the look at record i; past the end, at the all-zero record
 unfoldable pub lookAt : List Record → ℕ → Look

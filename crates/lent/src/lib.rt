@@ -15,7 +15,7 @@ pub fn empty() -> Record
 {
     let s = record::slots::zero_slot();
     Record {
-        used: false,
+        used: 0,
         address: [0; 64],
         start: 0,
         spent: 0,

@@ -17,7 +17,7 @@ pub fn look_of(r: Record) -> Look
 {
     let address = r.address;
     Look {
-        used: r.used,
+        used: r.used == 1,
         sound: record::sound::is_sound(r),
         address,
     }

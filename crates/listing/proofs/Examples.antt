@@ -1,5 +1,6 @@
 -- Worked examples: one refusal of each kind that the eleven lines do not show, and reading state. Each by computation.
 use mathlib.Core.Path.{_≡_, refl}
+use Prim.Native.Nat.{ℕ}
 use mathlib.Core.Bool.{true}
 use mathlib.Core.List.{[], _∷_, _++_}
 use lib.ListN.{replicate}
@@ -9,6 +10,7 @@ use Rattle.record.specs.Address.{padded}
 use Rattle.publish.specs.declared.Field.the-variants.{Nothing, Allow, AllowEvents, Accept, RetryAfter}
 use Rattle.publish.specs.declared.Outcome.the-variants.{Silent, Refused, Granted}
 use Rattle.table.specs.Table.{Table}
+use Rattle.table.specs.Add.{added}
 use Rattle.table.specs.Handle.{done}
 use Rattle.table.specs.Read.{stateOf}
 use Rattle.table.specs.declared.Shown.the-variants.{Stored, Default, Front}
@@ -37,13 +39,28 @@ late-clock : back (annTable 0) (at 1000000000001 (telling "ann" "Event: presence
 unfolding all-listing
 late-clock = refl
 
+-- one record, all zero but for this number, which says whether it is in use
+abbrev marked : ℕ → Table
+marked n =
+    record {
+      records = record { used = n; address = padded []; start = 0; spent = 0; clock = 0; map = 0; slots = emptyRecord .slots } ∷ [];
+      store = replicate 4096 0;
+    }
+
 -- 5: a record in use with no address
-unsound-record :
-    back (record { records = record { used = true; address = padded []; start = 0; spent = 0; clock = 0; map = 0; slots = emptyRecord .slots } ∷ []; store = replicate 4096 0 })
-    (at 1 (telling "ann" "Event: presence\r\n"))
-    ≡ Silent 5
+unsound-record : back (marked 1) (at 1 (telling "ann" "Event: presence\r\n")) ≡ Silent 5
 unfolding all-listing
 unsound-record = refl
+
+-- 5: a record that says neither that it is in use nor that it is not
+unmarked-record : back (marked 2) (at 1 (telling "ann" "Event: presence\r\n")) ≡ Silent 5
+unfolding all-listing
+unmarked-record = refl
+
+-- nothing is added to it
+unmarked-added : added (record { address = bytes "ann"; start = 0; spent = 0 }) (marked 2) ≡ record { result = 5; table = marked 2 }
+unfolding all-listing
+unmarked-added = refl
 
 -- 6: no Via line
 no-via : back (annTable 0) (at 1 (bytes "PUBLISH ann SIP/2.0\r\nFrom: <ann>;tag=1\r\nTo: <ann>\r\nCall-ID: 1\r\nCSeq: 1 PUBLISH\r\n\r\n")) ≡ Silent 6

@@ -28,7 +28,7 @@ pub fn fresh(start: u32, spent: u32) -> Record {
     address[1] = 110;
     address[2] = 110;
     Record {
-        used: true,
+        used: 1,
         address,
         start,
         spent,

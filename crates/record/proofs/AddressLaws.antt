@@ -18,6 +18,7 @@ use Rattle.laws.proofs.Tests.{and-left, and-right, and-both, every-head, every-
 use Rattle.text.specs.Class.{isVisible, from-to}
 use Rattle.text.specs.Runs.{front, run, past}
 use Rattle.text.proofs.RunLaws.{run-whole, run-length, past-first}
+use Rattle.record.specs.Places.{isInUse}
 use Rattle.record.specs.Address.{isAddress, addressOf, padded, hasAddress, sameAddress}
 use Rattle.record.specs.Sound.{isSound}
 use Rattle.record.specs.declared.Record.{Record}
@@ -167,5 +168,5 @@ held-same r t e f n = go (same (r .address) (t .address)) (same (addressOf r) (a
     go false false h k = h ∙ sym k
 
 -- a sound record in use has an address
-pub sound-used : (r : Record) → isSound r ≡ true → r .used ≡ true → hasAddress r ≡ true
+pub sound-used : (r : Record) → isSound r ≡ true → isInUse r ≡ true → hasAddress r ≡ true
 sound-used r e u = sound-found r u e .address

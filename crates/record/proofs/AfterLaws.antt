@@ -13,7 +13,7 @@ use Rattle.tag.specs.Given.{numberOfTag}
 use Rattle.tag.proofs.Tag.{tag-below}
 use Rattle.tag.proofs.Given.{number-only}
 use Rattle.record.specs.Packages.{packageAt, isListed}
-use Rattle.record.specs.Places.{places, isWhole, slotsOf, occupied, isLive, live}
+use Rattle.record.specs.Places.{isInUse, places, isWhole, slotsOf, occupied, isLive, live}
 use Rattle.record.specs.Address.{addressOf, hasAddress}
 use Rattle.record.specs.Sound.{latestClock, isSound}
 use Rattle.record.specs.After.{successNumber, givenTag, freedPlaces, isMatch, hasBody, writtenSlot, written, placesAfter, recordAfter, withBody, partAfter}
@@ -89,10 +89,15 @@ pub keeps : (x : Success) (r : Record) → Keeps r (recordAfter x r)
 unfolding recordAfter hasAddress addressOf
 keeps x r = record { used = refl; address = refl; start = refl; has-address = refl }
 
+-- so it is in use exactly if it was
+pub in-use-kept : (r r′ : Record) → Keeps r r′ → isInUse r′ ≡ isInUse r
+unfolding isInUse
+in-use-kept r r′ k = rw (k .used)
+
 -- what a success rests on: no refusal applied
 pub record Rests (x : Success) (r : Record) : Type 0 where
   pub whole : isWhole r ≡ true
-  pub used : r .used ≡ true
+  pub used : isInUse r ≡ true
   pub sound : isSound r ≡ true
   pub listed : isListed (x .event) ≡ true
   pub body-fits : x .length ≤ 512
@@ -229,7 +234,7 @@ module _ (x : Success) (r : Record) (h : Rests x r) where
   pub sound-after : isSound (recordAfter x r) ≡ true
   unfolding recordAfter
   sound-after =
-      sound-tested (recordAfter x r) (placesAfter x r) (places-after x r)
+      sound-tested (recordAfter x r) (placesAfter x r) (in-use-kept r _ (keeps x r) ∙ h .used) (places-after x r)
       record {
         address = keeps x r .has-address ∙ before .address;
         in-time = h .in-time;

@@ -5,13 +5,13 @@ use mathlib.Core.List.{List}
 use Prim.Native.Nat.{ℕ, _+_, _-_, _%_, _<_, _≤_}
 use native.Mathlib.Omega.{arith}
 use lib.Dec.{eqb, leb}
-use borrow.Author.Tests.{leb-true, leb-false, le-leb, lt-leb}
+use borrow.Author.Tests.{eqb-true, leb-true, leb-false, le-leb, lt-leb}
 use Rattle.laws.specs.Lists.{every, pairwise}
 use Rattle.laws.proofs.Tests.{and-left, and-right}
 use Rattle.text.specs.Class.{from-to}
 use Rattle.tag.specs.Given.{numberOfTag, isGiven}
 use Rattle.record.specs.Packages.{packageAt, isListed}
-use Rattle.record.specs.Places.{Place, places, occupied}
+use Rattle.record.specs.Places.{Place, isInUse, places, occupied}
 use Rattle.record.specs.Address.{hasAddress}
 use Rattle.record.specs.Sound.{latestClock, isSoundSlot, tagsDiffer, numbersDiffer, slotsDiffer, isSound}
 use Rattle.record.specs.declared.Slot.{Slot}
@@ -76,10 +76,10 @@ used-tested true b h e = e
 used-tested false b h e = absurd (false≢true h)
 
 -- a record in use that passes the test is so
-pub sound-found : (r : Record) → r .used ≡ true → isSound r ≡ true → RecordHolds r (places r)
+pub sound-found : (r : Record) → isInUse r ≡ true → isSound r ≡ true → RecordHolds r (places r)
 unfolding isSound occupied slotsDiffer tagsDiffer numbersDiffer
 sound-found r u e =
-    let e₀ = used-tested (r .used) _ u e in
+    let e₀ = used-tested (isInUse r) _ u (and-right (leb (r .used) 1) _ e) in
     let e₁ = and-right (hasAddress r) _ e₀ in
     let e₂ = and-right (leb (r .clock) latestClock) _ e₁ in
     let e₃ = and-right (every (isSoundSlot r) (occupied r)) _ e₂ in
@@ -91,22 +91,25 @@ sound-found r u e =
       numbers = apart-found (λ s. s .edition) (places r) (and-right (pairwise tagsDiffer (occupied r)) _ e₃);
     }
 
--- a record that is so passes the test
-pub sound-tested : (r : Record) (ps : List Place) → places r ≡ ps → RecordHolds r ps → isSound r ≡ true
+-- a record in use says so by 1
+marked : (r : Record) → isInUse r ≡ true → leb (r .used) 1 ≡ true
+unfolding isInUse
+marked r u = rw (eqb-true (r .used) 1 u)
+
+-- a record in use that is so passes the test
+pub sound-tested : (r : Record) (ps : List Place) → isInUse r ≡ true → places r ≡ ps → RecordHolds r ps → isSound r ≡ true
 unfolding isSound occupied slotsDiffer tagsDiffer numbersDiffer
-sound-tested r ps e h =
+sound-tested r ps u e h =
     rw (
+      marked r u,
+      u,
       e,
       h .address,
       le-leb _ _ (h .in-time),
       each-tested (isSoundSlot r) ps (λ k t. slot-tested r _ (h .each k t)),
       apart-tested (λ s. s .tag) ps (h .tags),
       apart-tested (λ s. s .edition) ps (h .numbers),
-    ) (either (not (r .used)))
-  where
-    either : (b : Bool) → (b || true) ≡ true
-    either true = refl
-    either false = refl
+    )
 
 -- an end up to the clock is in time
 pub in-time-before : (end clock most : ℕ) → end ≤ clock → leb end (clock + most) ≡ true
@@ -128,10 +131,20 @@ unfolding isSoundSlot
 slot-asked r s p q t u = rw (p, q, t, u)
 
 -- what is asked of a record
-pub record-asked : (r : Record) {a b c d : Bool} → r .used ≡ a → hasAddress r ≡ b → leb (r .clock) latestClock ≡ c
-    → every (isSoundSlot r) (occupied r) ≡ d → isSound r ≡ (not a || (b && (c && (d && slotsDiffer (occupied r)))))
-unfolding isSound
+pub record-asked : (r : Record) {b c d : Bool} → r .used ≡ 1 → hasAddress r ≡ b → leb (r .clock) latestClock ≡ c
+    → every (isSoundSlot r) (occupied r) ≡ d → isSound r ≡ (b && (c && (d && slotsDiffer (occupied r))))
+unfolding isSound isInUse
 record-asked r p q t u = rw (u, t, q, p)
+
+-- a record that is not in use is sound
+pub unused-sound : (r : Record) → r .used ≡ 0 → isSound r ≡ true
+unfolding isSound isInUse
+unused-sound r p = rw p
+
+-- one that is neither in use nor not is not
+pub unmarked-unsound : (r : Record) → (r .used ≡ 0 → ⊥) → (r .used ≡ 1 → ⊥) → isSound r ≡ false
+unfolding isSound
+unmarked-unsound r p q = rw (lt-leb (r .used) 1 (omega (arith, p, q)))
 
 -- two slots differ in tag and in body number
 abbrev pub differs : Slot → Slot → Bool

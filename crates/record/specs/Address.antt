@@ -7,6 +7,7 @@ use lib.ListN.{length, drop, replicate}
 use Rattle.laws.specs.Lists.{every, same}
 use Rattle.text.specs.Class.{isVisible, from-to}
 use Rattle.text.specs.Runs.{front}
+use Rattle.record.specs.Places.{isInUse}
 use Rattle.record.specs.declared.Record.{Record}
 
 -- an address is 1 to 64 bytes, each 33 to 126
@@ -31,4 +32,4 @@ sameAddress a b = same a b
 
 -- the record is in use for that address
 unfoldable pub isFor : List ℕ → Record → Bool
-isFor a r = r .used && sameAddress a (addressOf r)
+isFor a r = isInUse r && sameAddress a (addressOf r)

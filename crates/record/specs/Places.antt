@@ -25,7 +25,11 @@ freePlace = record { taken = false; slot = zeroSlot }
 -- an emptied record is all zero
 abbrev pub emptyRecord : Record
 emptyRecord =
-    record { used = false; address = replicate 64 0; start = 0; spent = 0; clock = 0; map = 0; slots = replicate 8 zeroSlot }
+    record { used = 0; address = replicate 64 0; start = 0; spent = 0; clock = 0; map = 0; slots = replicate 8 zeroSlot }
+
+-- a record is in use: 1 says so
+unfoldable pub isInUse : Record → Bool
+isInUse r = eqb (r .used) 1
 
 -- what the type of a record says of its arrays: 64 address bytes and eight slots
 unfoldable pub isWhole : Record → Bool

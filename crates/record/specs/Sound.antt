@@ -7,7 +7,7 @@ use Rattle.laws.specs.Lists.{every, pairwise, those}
 use Rattle.text.specs.Class.{from-to}
 use Rattle.tag.specs.Given.{isGiven}
 use Rattle.record.specs.Packages.{Package, packageAt, isListed}
-use Rattle.record.specs.Places.{occupied}
+use Rattle.record.specs.Places.{isInUse, occupied}
 use Rattle.record.specs.Address.{addressOf, hasAddress, sameAddress}
 use Rattle.record.specs.declared.Slot.{Slot}
 use Rattle.record.specs.declared.Record.{Record}
@@ -33,15 +33,16 @@ numbersDiffer s t = not (eqb (s .edition) (t .edition))
 unfoldable pub slotsDiffer : List Slot → Bool
 slotsDiffer ss = pairwise tagsDiffer ss && pairwise numbersDiffer ss
 
--- a record by itself is sound; unused records are
+-- a record by itself is sound: 1 or 0 says whether it is in use, and one that is not is sound
 unfoldable pub isSound : Record → Bool
 isSound r =
-    not (r .used)
-    || (hasAddress r && (leb (r .clock) latestClock && (every (isSoundSlot r) (occupied r) && slotsDiffer (occupied r))))
+    leb (r .used) 1
+    && (not (isInUse r)
+    || (hasAddress r && (leb (r .clock) latestClock && (every (isSoundSlot r) (occupied r) && slotsDiffer (occupied r)))))
 
 unfoldable pub addressesDiffer : Record → Record → Bool
 addressesDiffer r t = not (sameAddress (addressOf r) (addressOf t))
 
 -- every lent record is sound, and the address of each in use differs from each other one in use
 unfoldable pub allSound : List Record → Bool
-allSound rs = every isSound rs && pairwise addressesDiffer (those (λ r. r .used) rs)
+allSound rs = every isSound rs && pairwise addressesDiffer (those isInUse rs)

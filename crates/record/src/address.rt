@@ -10,18 +10,19 @@ ghost use Rattle.laws.specs.Lists.{every, same};
 ghost use Rattle.text.specs.Runs.{front};
 ghost use Rattle.record.specs.Address.{isAddress, padded, hasAddress, sameAddress};
 
-// Whether every byte from a position on is zero.
+// Whether every byte from a position on is zero. It does not stop at the first that is not, so that the compiler can take sixteen at a time.
 fn is_zero_from(s: &[u8], from: usize) -> bool
     ensures { λ x. ⌜ x ≡ every (eqb 0) (drop from (now (s .entry))) ⌝ }
 {
+    let mut zero = true;
     let mut i = from;
     while i < s.len() {
         if s[i] != 0 {
-            return false;
+            zero = false;
         }
         i += 1;
     }
-    true
+    zero
 }
 
 // Whether a text is an address: 1 to 64 bytes, each 33 to 126.

@@ -9,6 +9,7 @@ pub mod sound;
 pub mod store;
 
 // A slot: package, tag, end clock, body length, and the edition of its body (its body number): the success number that last set it.
+#[repr(C)]
 pub struct Slot {
     pub event: u8,
     pub tag: u32,
@@ -17,9 +18,10 @@ pub struct Slot {
     pub edition: u32,
 }
 
-// A record: in use or not, address, start, count of tags spent, clock of the latest success, map of occupied slots.
+// A record: whether it is in use (1, or 0 where it is not), address, start, count of tags spent, clock of the latest success, map of occupied slots.
+#[repr(C)]
 pub struct Record {
-    pub used: bool,
+    pub used: u8,
     pub address: [u8; 64],
     pub start: u32,
     pub spent: u32,

@@ -133,12 +133,15 @@ pub fn slots_differ(r: Record) -> bool
     true
 }
 
-// Whether a record by itself is sound; unused ones are.
+// Whether a record by itself is sound; one that is not in use is.
 pub fn is_sound(r: Record) -> bool
     ensures { λ x. ⌜ x ≡ isSound r ⌝ }
 {
-    if !r.used {
+    if r.used == 0 {
         return true;
+    }
+    if r.used != 1 {
+        return false;
     }
     if !address::has_address(r) {
         return false;

@@ -14,7 +14,7 @@ use Rattle.laws.specs.Lists.{every, placeOf}
 use Rattle.laws.proofs.Tests.{and-left, and-right}
 use Rattle.record.specs.Address.{isAddress}
 use Rattle.record.specs.Address
-use Rattle.record.specs.Places.{emptyRecord}
+use Rattle.record.specs.Places.{emptyRecord, isInUse}
 use Rattle.record.specs.Store.{partOf, partAt, withPart}
 use Rattle.record.specs.declared.Record.{Record}
 use Rattle.record.proofs.AddressLaws.{address-of}
@@ -43,7 +43,7 @@ pub record Ready (n : ℕ) (es : List Entry) : Type 0 where
 
 -- a fresh record is for an address where its entry is
 fresh-for : (a : List ℕ) (e : Entry) → isFormed e ≡ true → Address.isFor a (freshRecord e) ≡ isOf a e
-unfolding Address.isFor freshRecord isOf
+unfolding Address.isFor isInUse freshRecord isOf
 fresh-for a e h = rw (address-of (freshRecord e) (e .address) h refl)
 
 module _ (n : ℕ) (es : List Entry) (ready : Ready n es) where
@@ -56,7 +56,7 @@ module _ (n : ℕ) (es : List Entry) (ready : Ready n es) where
 
   -- an address stands where its entry does, or nowhere
   place-with : (a : List ℕ) → placeFor a (tableWith n es) ≡ pick (isAmong a es) (placeOf (isOf a) es) (length es + (n - length es))
-  unfolding tableWith placeFor isAmong Address.isFor
+  unfolding tableWith placeFor isAmong Address.isFor isInUse
   place-with a =
       place-in (Address.isFor a) (isOf a) isFormed freshRecord (fresh-for a) es _ (ready .formed)
       ∙ ap (λ (m : ℕ). pick (isAmong a es) (placeOf (isOf a) es) (length es + m)) (place-copies (Address.isFor a) (n - length es) emptyRecord)
@@ -98,10 +98,10 @@ module _ (n : ℕ) (es : List Entry) (ready : Ready n es) where
 
   -- the lowest unused record stands behind those of the entries
   lowest-with : lowestUnused (tableWith n es) ≡ length es
-  unfolding tableWith lowestUnused freshRecord
+  unfolding tableWith lowestUnused isInUse freshRecord
   lowest-with =
-      place-in (λ r. not (r .used)) (λ e. false) isFormed freshRecord (λ e h. refl) es _ (ready .formed)
-      ∙ rw (none-any es, place-copies (λ (r : Record). not (r .used)) (n - length es) emptyRecord) (omega arith)
+      place-in (λ r. not (isInUse r)) (λ e. false) isFormed freshRecord (λ e h. refl) es _ (ready .formed)
+      ∙ rw (none-any es, place-copies (λ (r : Record). not (isInUse r)) (n - length es) emptyRecord) (omega arith)
 
   module _ (e : Entry) where
     -- `add` gives 0 exactly where the entry is taken

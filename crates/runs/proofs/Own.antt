@@ -11,11 +11,11 @@ use Rattle.laws.proofs.Tests.{and-right, and-both, same-equal, same-self, place
 use Rattle.request.specs.Fields.{body}
 use Rattle.record.specs.Address.{addressOf, sameAddress}
 use Rattle.record.specs.Address
-use Rattle.record.specs.Places.{emptyRecord, isWhole}
+use Rattle.record.specs.Places.{emptyRecord, isInUse, isWhole}
 use Rattle.record.specs.Store.{partOf}
 use Rattle.record.specs.declared.Record.{Record}
 use Rattle.record.proofs.StoreLaws.{partAfter-length, whole-slots}
-use Rattle.record.proofs.AfterLaws.{Keeps, keeps}
+use Rattle.record.proofs.AfterLaws.{Keeps, keeps, in-use-kept}
 use Rattle.publish.specs.Outcomes.{isSuccess}
 use Rattle.publish.specs.Refusals.{Case, outcomeOf, refusals, sizeRows, requestRows, readingRows, isBadSize}
 use Rattle.publish.specs.Step.{successOf, ownAfter, partAfterwards}
@@ -33,7 +33,7 @@ use Rattle.runs.proofs.Written.{place-stays, known-stays, record-other,
 -- a record that keeps its address is in use for the addresses that it was in use for
 for-kept : (a : List ℕ) (r r′ : Record) → Keeps r r′ → Address.isFor a r′ ≡ Address.isFor a r
 unfolding Address.isFor addressOf
-for-kept a r r′ k = rw (k .used, k .address)
+for-kept a r r′ k = rw (in-use-kept r r′ k, k .address)
 
 -- two addresses that are in use in one record are one
 one-address : (t : Table) (a b : List ℕ) → isKnown a t ≡ true → isKnown b t ≡ true → placeFor a t ≡ placeFor b t → a ≡ b
@@ -42,7 +42,7 @@ one-address t a b k l e = same-equal a _ (found a k) ∙ rw e (sym (same-equal b
   where
     found : (a : List ℕ) → isKnown a t ≡ true → same a (addressOf (getD (t .records) (placeFor a t) emptyRecord)) ≡ true
     found a k =
-        and-right (getD (t .records) (placeFor a t) emptyRecord .used) _
+        and-right (isInUse (getD (t .records) (placeFor a t) emptyRecord)) _
         (place-holds (Address.isFor a) (t .records) emptyRecord (ltb-true _ _ k))
 
 -- an input that succeeds is read as far as its address

@@ -24,7 +24,7 @@ use Rattle.runs.specs.Tags.{tagIn, packageIn, cameBack, succeeded, tagGi
 
 -- a record in use that is not sound, and not even whole
 unfoldable pub junkRecord : Record
-junkRecord = record { used = true; address = 0 ∷ []; start = 5; spent = 7; clock = 9; map = 255; slots = zeroSlot ∷ [] }
+junkRecord = record { used = 1; address = 0 ∷ []; start = 5; spent = 7; clock = 9; map = 255; slots = zeroSlot ∷ [] }
 
 -- two of them, and a store for them that is full of junk
 unfoldable pub junkTable : Table
@@ -60,7 +60,7 @@ slotNumbers s = s .event ∷ s .tag ∷ s .end ∷ s .length ∷ s .edition ∷ 
 -- the numbers of a record, its address and its slots last
 unfoldable pub recordNumbers : Record → List ℕ
 recordNumbers r =
-    pick (r .used) 1 0 ∷ r .start ∷ r .spent ∷ r .clock ∷ r .map ∷ (r .address ++ joined (map slotNumbers (r .slots)))
+    r .used ∷ r .start ∷ r .spent ∷ r .clock ∷ r .map ∷ (r .address ++ joined (map slotNumbers (r .slots)))
 
 -- the numbers of a life, one behind the other: each result with the length and the bytes of its message, the record and the part
 unfoldable pub numbersOf : Life → List ℕ

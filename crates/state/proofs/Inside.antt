@@ -14,7 +14,7 @@ use Rattle.laws.proofs.Tests.{and-left, or-left, every-at, place-holds}
 use Rattle.laws.proofs.Rows.{none-refused}
 use Rattle.record.specs.Address.{isFor}
 use Rattle.record.specs.Packages.{packageNamed}
-use Rattle.record.specs.Places.{emptyRecord, freePlace, places, isLive, isOf, newest}
+use Rattle.record.specs.Places.{emptyRecord, isInUse, freePlace, places, isLive, isOf, newest}
 use Rattle.record.specs.Sound.{isSound, allSound}
 use Rattle.record.specs.Store.{partAt, roomAt}
 use Rattle.record.specs.declared.Record.{Record}
@@ -31,7 +31,7 @@ unfolding stateOf stateWith readRefusals askedRows every
 none-refusing y t h = none-refused (readRefusals (badSize t) y t) refl h
 
 -- a body of the newest live publication of a sound record in use has at most 512 bytes
-short : (r : Record) (clock event : ℕ) → r .used ≡ true → isSound r ≡ true → placeAt (places r) (newest clock event r) .slot .length ≤ 512
+short : (r : Record) (clock event : ℕ) → isInUse r ≡ true → isSound r ≡ true → placeAt (places r) (newest clock event r) .slot .length ≤ 512
 unfolding newest isOf isLive
 short r clock event u e = go (decLt (newest clock event r) (length (places r)))
   where
@@ -59,7 +59,7 @@ module _ (y : Query) (t : Table) (h : stateOf y t .result ≡ 0) where
   known = ltb-true _ _ (not-false _ (or-left (not (isKnown (y .address) t)) _ (none-refusing y t h 3)))
 
   -- its record is in use
-  used : own .used ≡ true
+  used : isInUse own ≡ true
   unfolding askedRecord recordAt placeFor isFor
   used = and-left _ _ (place-holds (isFor (y .address)) (t .records) emptyRecord known)
 

@@ -15,7 +15,7 @@ use Rattle.laws.proofs.Tests.{and-left, and-right, and-both, and-fails, same-tu
 use Rattle.laws.proofs.Rows.{none-refused}
 use Rattle.request.specs.Head.{headOf, uriOf}
 use Rattle.request.specs.Fields.{hasMatch, bodyLength}
-use Rattle.record.specs.Places.{emptyRecord, occupied, places, placesIn, slotsOf, isLive, smaller}
+use Rattle.record.specs.Places.{emptyRecord, isInUse, occupied, places, placesIn, slotsOf, isLive, smaller}
 use Rattle.record.specs.Address.{isAddress, addressOf, sameAddress, isFor}
 use Rattle.record.specs.Sound.{slotsDiffer, isSound, addressesDiffer, allSound}
 use Rattle.record.specs.After.{recordAfter}
@@ -23,7 +23,7 @@ use Rattle.record.specs.declared.Record.{Record}
 use Rattle.record.proofs.AddressLaws.{address-of, has-address}
 use Rattle.record.proofs.Places.{placeAt}
 use Rattle.record.proofs.StoreLaws.{whole-slots}
-use Rattle.record.proofs.AfterLaws.{Rests, Keeps, keeps, sound-after}
+use Rattle.record.proofs.AfterLaws.{Rests, Keeps, keeps, in-use-kept, sound-after}
 use Rattle.publish.specs.Outcomes.{isSuccess}
 use Rattle.publish.specs.Refusals.{Case, granted, presented, outcomeOf}
 use Rattle.publish.specs.Step.{successFor, successOf}
@@ -39,10 +39,10 @@ use Rattle.table.proofs.Whole.{Holds, held-found, own-passes, records-a
 
 -- emptied records are sound
 empty-sound : (n : ℕ) → allSound (replicate n emptyRecord) ≡ true
-unfolding allSound isSound pairwise
+unfolding allSound isSound pairwise isInUse
 empty-sound n =
-    and-both (every isSound (replicate n emptyRecord)) (pairwise addressesDiffer (those (λ r. r .used) (replicate n emptyRecord)))
-    (every-copy isSound n emptyRecord refl) (rw (those-copy (λ r. r .used) n emptyRecord refl))
+    and-both (every isSound (replicate n emptyRecord)) (pairwise addressesDiffer (those isInUse (replicate n emptyRecord)))
+    (every-copy isSound n emptyRecord refl) (rw (those-copy isInUse n emptyRecord refl))
 
 -- where a table is opened, its sizes are good
 open-size : (t : Table) → opened t .result ≡ 0 → badSize t ≡ false
@@ -56,7 +56,7 @@ open-sound t h = rw (open-size t h) (empty-sound (length (t .records)))
 
 -- an added record is sound
 fresh-sound : (e : Entry) → isAddress (e .address) ≡ true → isSound (freshRecord e) ≡ true
-unfolding isSound occupied places placesIn those slotsOf slotsDiffer pairwise every freshRecord
+unfolding isSound isInUse occupied places placesIn those slotsOf slotsDiffer pairwise every freshRecord
 fresh-sound e h = rw (has-address (freshRecord e) (e .address) h refl)
 
 -- an added record has its address
@@ -65,15 +65,15 @@ unfolding freshRecord
 fresh-address e h = address-of (freshRecord e) (e .address) h refl
 
 -- a record in use that is not for the address of another differs in address
-differs : (r o : Record) → not (isFor (addressOf r) o) ≡ true → o .used ≡ true → addressesDiffer r o ≡ true
+differs : (r o : Record) → not (isFor (addressOf r) o) ≡ true → isInUse o ≡ true → addressesDiffer r o ≡ true
 unfolding isFor addressesDiffer
-differs r o h u = rw (and-fails (o .used) (sameAddress (addressOf r) (addressOf o)) (not-true (isFor (addressOf r) o) h) u)
+differs r o h u = rw (and-fails (isInUse o) (sameAddress (addressOf r) (addressOf o)) (not-true (isFor (addressOf r) o) h) u)
 
 -- a record whose address is not in the table differs in address from every record in use
-others-differ : (r : Record) (t : Table) → isKnown (addressOf r) t ≡ false → every (addressesDiffer r) (those (λ o. o .used) (t .records)) ≡ true
+others-differ : (r : Record) (t : Table) → isKnown (addressOf r) t ≡ false → every (addressesDiffer r) (those isInUse (t .records)) ≡ true
 unfolding isKnown placeFor
 others-differ r t e =
-    every-those (λ o. not (isFor (addressOf r) o)) (addressesDiffer r) (λ o. o .used) (t .records) (differs r)
+    every-those (λ o. not (isFor (addressOf r) o)) (addressesDiffer r) isInUse (t .records) (differs r)
     (place-none (isFor (addressOf r)) (t .records) (ltb-false (placeFor (addressOf r) t) (length (t .records)) e))
 
 -- sound records with a new one among them are sound
@@ -81,9 +81,9 @@ added-sound : (e : Entry) (t : Table) (i : ℕ) → allSound (t .records) ≡ tr
     → allSound (set (t .records) i (freshRecord e)) ≡ true
 unfolding allSound addressesDiffer sameAddress
 added-sound e t i s h k =
-    and-both (every isSound (set rs i r)) (pairwise addressesDiffer (those (λ r. r .used) (set rs i r)))
+    and-both (every isSound (set rs i r)) (pairwise addressesDiffer (those isInUse (set rs i r)))
     (every-set isSound rs i r (and-left (every isSound rs) alone s) (fresh-sound e h))
-    (pairwise-those-set addressesDiffer (λ r. r .used) rs i r (and-right (every isSound rs) alone s) first second)
+    (pairwise-those-set addressesDiffer isInUse rs i r (and-right (every isSound rs) alone s) first second)
   where
     rs : List Record
     rs = t .records
@@ -92,14 +92,14 @@ added-sound e t i s h k =
     r = freshRecord e
 
     alone : Bool
-    alone = pairwise addressesDiffer (those (λ r. r .used) rs)
+    alone = pairwise addressesDiffer (those isInUse rs)
 
-    first : every (addressesDiffer r) (those (λ r. r .used) rs) ≡ true
+    first : every (addressesDiffer r) (those isInUse rs) ≡ true
     first = others-differ r t (rw (fresh-address e h) k)
 
-    second : every (λ o. addressesDiffer o r) (those (λ r. r .used) rs) ≡ true
+    second : every (λ o. addressesDiffer o r) (those isInUse rs) ≡ true
     second =
-        every-follows (addressesDiffer r) (λ o. addressesDiffer o r) (those (λ r. r .used) rs)
+        every-follows (addressesDiffer r) (λ o. addressesDiffer o r) (those isInUse rs)
         (λ o d. rw (same-turned (addressOf o) (addressOf r)) d) first
 
 -- `add` keeps the records sound
@@ -140,12 +140,12 @@ module _ {A K : Type 0} (k : A → K) where
   pairwise-shown q (x ∷ xs) = rw (every-shown (q (k x)) xs, pairwise-shown q xs)
 
 -- the addresses of records in use differ as before with one replaced by another that is in use as it was, for the same address
-differ-kept : (rs : List Record) (i : ℕ) (r d : Record) → r .used ≡ getD rs i d .used → addressOf r ≡ addressOf (getD rs i d)
-    → pairwise addressesDiffer (those (λ o. o .used) (set rs i r)) ≡ pairwise addressesDiffer (those (λ o. o .used) rs)
+differ-kept : (rs : List Record) (i : ℕ) (r d : Record) → isInUse r ≡ isInUse (getD rs i d) → addressOf r ≡ addressOf (getD rs i d)
+    → pairwise addressesDiffer (those isInUse (set rs i r)) ≡ pairwise addressesDiffer (those isInUse rs)
 unfolding addressesDiffer
 differ-kept rs i r d u e =
-    pairwise-shown addressOf others (those (λ o. o .used) (set rs i r))
-    ∙ ap (pairwise others) (those-kept addressOf (λ o. o .used) rs i r d u e) ∙ sym (pairwise-shown addressOf others (those (λ o. o .used) rs))
+    pairwise-shown addressOf others (those isInUse (set rs i r))
+    ∙ ap (pairwise others) (those-kept addressOf isInUse rs i r d u e) ∙ sym (pairwise-shown addressOf others (those isInUse rs))
   where
     others : List ℕ → List ℕ → Bool
     others a b = not (sameAddress a b)
@@ -185,7 +185,7 @@ module _ (t : Table) (buffer : List ℕ) (x : Input) (h : every isHeld (t .recor
   each-sound = and-left (every isSound (t .records)) _ s
 
   -- where a request succeeds, the record of its address is in use
-  own-used : isSuccess (outcomeOf (caseOf t buffer x)) ≡ true → caseOf t buffer x .own .used ≡ true
+  own-used : isSuccess (outcomeOf (caseOf t buffer x)) ≡ true → isInUse (caseOf t buffer x .own) ≡ true
   unfolding caseOf recordAt isKnown placeFor isFor
   own-used e =
       let known = ltb-true _ _ (grants (caseOf t buffer x) e .known) in
@@ -225,7 +225,7 @@ module _ (t : Table) (buffer : List ℕ) (x : Input) (h : every isHeld (t .recor
   unfolding allSound caseOf recordAt
   success-sound e =
       and-both _ _ (every-set isSound (t .records) i r each-sound (sound-after _ _ (rests e)))
-      (differ-kept (t .records) i r emptyRecord (kept .used) (same-bytes r _ (kept .address)) ∙ and-right (every isSound (t .records)) _ s)
+      (differ-kept (t .records) i r emptyRecord (in-use-kept _ r kept) (same-bytes r _ (kept .address)) ∙ and-right (every isSound (t .records)) _ s)
     where
       i : ℕ
       i = placeFor (uriOf (x .request) (headOf (x .request))) t

@@ -7,7 +7,7 @@ use lib.ListN.{length, replicate}
 use Rattle.laws.specs.Choose.{pick}
 use Rattle.laws.specs.First.{Row, row, firstOf}
 use Rattle.laws.specs.Lists.{placeOf}
-use Rattle.record.specs.Places.{zeroSlot}
+use Rattle.record.specs.Places.{zeroSlot, isInUse}
 use Rattle.record.specs.Address.{isAddress, padded}
 use Rattle.record.specs.Sound.{allSound}
 use Rattle.record.specs.declared.Record.{Record}
@@ -22,7 +22,7 @@ pub record Entry : Type 0 where
 
 -- the lowest unused record; the number of records where all are in use
 unfoldable pub lowestUnused : Table → ℕ
-lowestUnused t = placeOf (λ r. not (r .used)) (t .records)
+lowestUnused t = placeOf (λ r. not (isInUse r)) (t .records)
 
 -- adding: 2, 5, then 7 address malformed, 8 address there already, 9 no unused record
 unfoldable pub addRefusals : Entry → Table → List (Row ℕ)
@@ -38,7 +38,7 @@ addRefusals e t =
 unfoldable pub freshRecord : Entry → Record
 freshRecord e =
     record {
-      used = true;
+      used = 1;
       address = padded (e .address);
       start = e .start;
       spent = e .spent;

@@ -57,7 +57,7 @@ fn fresh(address: &[u8], start: u32, spent: u32) -> Record
     let bytes = record::address::padded_address(address);
     let s = record::slots::zero_slot();
     Record {
-        used: true,
+        used: 1,
         address: bytes,
         start,
         spent,

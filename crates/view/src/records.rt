@@ -53,7 +53,7 @@ fn part_at(store: &[u8], k: usize) -> &[u8]
 
 // Puts what is shown of a record that is in use; nothing of another.
 fn put_used(out: &mut [u8], at: usize, k: usize, r: Record, part: &[u8]) -> usize {
-    if !r.used {
+    if r.used != 1 {
         return at;
     }
     put_record(out, at, k, r, part)

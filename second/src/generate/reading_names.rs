@@ -47,7 +47,7 @@ pub fn address_with_zero_behind(known: &[u8], random: &mut Random) -> Vec<u8> {
 /// Another address that is not known; while a record is unused, often the empty
 /// one, which that record holds.
 pub fn unknown_address(known: &[u8], world: &World, random: &mut Random) -> Vec<u8> {
-    let unused = world.records().iter().any(|record| !record.in_use);
+    let unused = world.records().iter().any(|record| !record.is_in_use());
     if unused && random.one_in(2) {
         return Vec::new();
     }

@@ -31,6 +31,18 @@ impl World {
         }
     }
 
+    /// Around records that are there already, whatever gave their tags.
+    pub fn holding(records: &[Record]) -> World {
+        World {
+            bench: Bench {
+                records: records.to_vec(),
+                store: Vec::new(),
+                buffer: Vec::new(),
+            },
+            given: Vec::new(),
+        }
+    }
+
     /// Gives one input line to the engine and remembers the tag it gave.
     pub fn run(&mut self, line: &[u8]) -> Turn {
         let spent: Vec<u32> = self.records().iter().map(|record| record.spent).collect();
@@ -66,7 +78,7 @@ impl World {
     /// The records in use that pass a test.
     pub fn those(&self, test: impl Fn(&Record) -> bool) -> Vec<usize> {
         (0..self.records().len())
-            .filter(|&r| self.record(r).in_use && test(self.record(r)))
+            .filter(|&r| self.record(r).is_in_use() && test(self.record(r)))
             .collect()
     }
 
@@ -129,7 +141,7 @@ pub fn clock_for(record: &Record, random: &mut Random) -> u64 {
     let ends: Vec<u64> = record.occupied().map(|(_, slot)| slot.end).collect();
     let clock = match (random.below(10), random.pick_any(&ends)) {
         (0, _) => record.latest,
-        (1 | 2, Some(end)) => end - 1 + random.below(3),
+        (1 | 2, Some(end)) => end.saturating_sub(1) + random.below(3),
         (3, _) => record.latest + random.below(700),
         (4, _) => record.latest + random.below(8000),
         _ => record.latest + random.below(40),

@@ -34,6 +34,18 @@ fn an_end_need_not_lie_ahead_of_the_clock() {
 }
 
 #[test]
+fn a_mark_that_is_neither_refuses_a_request() {
+    for mark in [2, 3, 128, 255] {
+        let mut table = Table::new();
+        let unused = table.bench.records.len() - 1;
+        table.bench.records[unused].mark = mark;
+        assert_eq!(table.initial(100, 3600), "none 5");
+        table.bench.records[unused].mark = 0;
+        assert_eq!(table.initial(100, 3600), "200 9e3779b9 3600");
+    }
+}
+
+#[test]
 fn an_unsound_record_of_another_address_refuses_a_request() {
     let mut table = Table::new();
     table.bench.records[1].latest = u64::MAX;

@@ -2,7 +2,7 @@
 
 use crate::table::*;
 use second::handle::handle;
-use second::table::{add, open, Record, PART_SIZE};
+use second::table::{add, open, Record, IN_USE, PART_SIZE};
 
 struct Call {
     records: usize,
@@ -28,7 +28,7 @@ fn result(call: &Call) -> u8 {
     let mut store = vec![3; call.store];
     let mut buffer = vec![4; call.buffer];
     if let (Some(last), false) = (records.last_mut(), call.sound) {
-        last.in_use = true;
+        last.mark = IN_USE;
     }
     let before = records.clone();
     let request = vec![b'x'; call.request];

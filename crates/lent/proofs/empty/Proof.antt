@@ -9,7 +9,7 @@ use Rattle.lent.proofs.empty.Statement.{statement}
 use Rattle.lent.proofs.empty.Tie as tie
 
 abbrev with-slots : Slot → Record
-with-slots s = record { used = false; address = replicate 64 0; start = 0; spent = 0; clock = 0; map = 0; slots = replicate 8 s }
+with-slots s = record { used = 0; address = replicate 64 0; start = 0; spent = 0; clock = 0; map = 0; slots = replicate 8 s }
 
 zero-slot-requires : tie.Need-zero-slot-requires
 zero-slot-requires c κs = search needs

@@ -1,5 +1,7 @@
--- While the bytes are zero the answer is that of the bytes behind them; another byte or the end of the text gives it.
-use mathlib.Core.Path.{_≡_, refl, sym, _∙_}
+-- The answer is what was found so far and what the bytes ahead say; another byte than zero settles it, and at the end nothing is ahead.
+use mathlib.Core.Path.{_≡_, refl, sym, _∙_, ap}
+use mathlib.Core.Bool.{_&&_, and-false, and-true}
+use mathlib.Core.Logic.{⊎-elim}
 use Prim.Native.Nat.{_-_}
 use lib.Dec.{eqb}
 use lib.ListN.{length, drop}
@@ -11,21 +13,16 @@ use Rattle.record.proofs.address.is_zero_from.Statement.{statement}
 use Rattle.record.proofs.address.is_zero_from.Tie as tie
 
 abbrev Inv-loop : tie.InvT-loop
-Inv-loop s from i₀ i = every (eqb 0) (drop from s) ≡ every (eqb 0) (drop i s)
+Inv-loop s from zero₀ i₀ zero i = every (eqb 0) (drop from s) ≡ (zero && every (eqb 0) (drop i s))
 
 abbrev μ-loop : tie.MeasureT-loop
-μ-loop s from i₀ i = length s - i
+μ-loop s from zero₀ i₀ zero i = length s - i
 
 loop-holds : tie.Need-loop-holds Inv-loop μ-loop
 loop-holds c = refl
 
 shared-slice-read-if1 : tie.Need-shared-slice-read-if1 Inv-loop μ-loop
 shared-slice-read-if1 c = search needs
-
-returns : tie.Need-returns Inv-loop μ-loop
-returns c =
-    let g = c .before .before in
-    sym (g .before .loop .inv ∙ every-on (eqb 0) _ _ 0 (g .loop-test .taken) (ne-eqb 0 _ (λ e. c .if1 .taken (sym e))))
 
 add-i : tie.Need-add-i Inv-loop μ-loop
 add-i c = search needs
@@ -36,10 +33,19 @@ loop-less c = search needs
 loop-again : tie.Need-loop-again Inv-loop μ-loop
 loop-again c =
     let g = c .before .before in
-    g .before .loop .inv ∙ every-on (eqb 0) _ _ 0 (g .loop-test .taken) (eq-eqb 0 _ (sym (c .if1 .left)))
+    let l = g .before in
+    let found = l .loop .zero in
+    ⊎-elim
+    (λ w.
+    rw (w .1)
+    (l .loop .inv ∙ ap (found &&_) (every-on (eqb 0) _ _ 0 (g .loop-test .taken) (ne-eqb 0 _ (λ e. w .0 .taken (sym e)))) ∙ and-false found))
+    (λ w. rw (w .1) (l .loop .inv ∙ ap (found &&_) (every-on (eqb 0) _ _ 0 (g .loop-test .taken) (eq-eqb 0 _ (sym (w .0 .left))))))
+    (c .if1 .came)
 
-returns-2 : tie.Need-returns-2 Inv-loop μ-loop
-returns-2 c = sym (c .before .loop .inv ∙ every-end (eqb 0) _ _ (c .loop-test .left))
+returns : tie.Need-returns Inv-loop μ-loop
+returns c =
+    let found = c .before .loop .zero in
+    sym (c .before .loop .inv ∙ ap (found &&_) (every-end (eqb 0) _ _ (c .loop-test .left)) ∙ and-true found)
 
 pub is-zero-from-spec : {M : Type 1} → statement M
 is-zero-from-spec =
@@ -49,8 +55,7 @@ is-zero-from-spec =
     μ-loop
     loop-holds
     shared-slice-read-if1
-    returns
     add-i
     loop-less
     loop-again
-    returns-2)
+    returns)

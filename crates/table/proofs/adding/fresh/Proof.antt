@@ -14,7 +14,7 @@ use Rattle.table.proofs.adding.fresh.Tie as tie
 
 abbrev filled : ℕ → ℕ → List ℕ → Slot → Record
 filled start spent bytes s =
-    record { used = true; address = bytes; start = start; spent = spent; clock = 0; map = 0; slots = replicate 8 s }
+    record { used = 1; address = bytes; start = start; spent = spent; clock = 0; map = 0; slots = replicate 8 s }
 
 padded-address-requires : tie.Need-padded-address-requires
 padded-address-requires c κs = search needs
