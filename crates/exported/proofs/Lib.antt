@@ -1,0 +1,5 @@
+pub mod Leaves
+pub mod Onward
+pub mod ContractLaws
+pub mod OneOutcome
+pub mod Examples
