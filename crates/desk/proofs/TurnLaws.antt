@@ -9,7 +9,7 @@ use Rattle.laws.specs.Choose.{pick}
 use Rattle.laws.specs.Lists.{byteAt}
 use Rattle.laws.specs.Wrote.{Wrote}
 use Rattle.record.specs.declared.Record.{Record}
-use Rattle.publish.specs.Outcomes.{isSuccess}
+use Rattle.response.specs.Outcomes.{isSuccess}
 use Rattle.publish.specs.Refusals.{Case, outcomeOf}
 use Rattle.table.specs.Table.{Table}
 use Rattle.table.specs.Handle.{Input, caseOf, tableAfter, doneWith, done}

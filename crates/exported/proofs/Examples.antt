@@ -1,8 +1,8 @@
 -- Worked examples: the numbers of each case. Each by computation.
 use mathlib.Core.Path.{_≡_, refl}
-use Rattle.publish.specs.Outcomes.{resultOf, statusOf}
-use Rattle.publish.specs.declared.Field.the-variants.{MinExpires, Accept, RetryAfter}
-use Rattle.publish.specs.declared.Outcome.the-variants.{Silent, Refused, Granted}
+use Rattle.response.specs.Outcomes.{resultOf, statusOf}
+use Rattle.response.specs.declared.Field.the-variants.{MinExpires, Accept, RetryAfter}
+use Rattle.response.specs.declared.Outcome.the-variants.{Silent, Refused, Granted}
 use Rattle.table.specs.declared.Shown.the-variants.{Stored, Default, Front}
 use Rattle.exported.specs.Numbers.{tagNumber, fieldSeconds, secondsOf, handledNumbers, shownNumber, positionOf, lengthOf, stateNumbers}
 

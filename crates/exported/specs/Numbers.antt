@@ -1,10 +1,10 @@
 -- What a call comes back with, in the paper's numbers: one definition for each number, a line for each case.
 use Prim.Native.Nat.{ℕ}
-use Rattle.publish.specs.Outcomes.{resultOf, statusOf}
-use Rattle.publish.specs.declared.Field.{Field}
-use Rattle.publish.specs.declared.Field.the-variants.{Nothing, Allow, AllowEvents, MinExpires, Accept, RetryAfter}
-use Rattle.publish.specs.declared.Outcome.{Outcome}
-use Rattle.publish.specs.declared.Outcome.the-variants.{Silent, Refused, Granted}
+use Rattle.response.specs.Outcomes.{resultOf, statusOf}
+use Rattle.response.specs.declared.Field.{Field}
+use Rattle.response.specs.declared.Field.the-variants.{Nothing, Allow, AllowEvents, MinExpires, Accept, RetryAfter}
+use Rattle.response.specs.declared.Outcome.{Outcome}
+use Rattle.response.specs.declared.Outcome.the-variants.{Silent, Refused, Granted}
 use Rattle.table.specs.declared.Handled.{Handled}
 use Rattle.table.specs.declared.Shown.{Shown}
 use Rattle.table.specs.declared.Shown.the-variants.{Stored, Default, Front}

@@ -1,6 +1,6 @@
 // What a call comes back with, in the paper's numbers: an enum does not cross to C.
-use publish::Field;
-use publish::Outcome;
+use response::Field;
+use response::Outcome;
 use table::Handled;
 use table::Shown;
 use table::State;

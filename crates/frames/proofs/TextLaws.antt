@@ -6,10 +6,10 @@ use Rattle.laws.specs.Bytes.{bytes}
 use Rattle.text.specs.Digits.{decimalOf}
 use Rattle.text.proofs.DigitLaws.{decimal-twenty, eight-length}
 use Rattle.tag.specs.Written.{tagText}
-use Rattle.publish.specs.declared.Field.{Field}
-use Rattle.publish.specs.declared.Field.the-variants.{Nothing, Allow, AllowEvents, MinExpires, Accept, RetryAfter}
-use Rattle.publish.specs.declared.Outcome.{Outcome}
-use Rattle.publish.specs.declared.Outcome.the-variants.{Silent, Refused, Granted}
+use Rattle.response.specs.declared.Field.{Field}
+use Rattle.response.specs.declared.Field.the-variants.{Nothing, Allow, AllowEvents, MinExpires, Accept, RetryAfter}
+use Rattle.response.specs.declared.Outcome.{Outcome}
+use Rattle.response.specs.declared.Outcome.the-variants.{Silent, Refused, Granted}
 use Rattle.table.specs.declared.Shown.{Shown as Lying}
 use Rattle.table.specs.declared.Shown.the-variants.{Stored, Default, Front}
 use Rattle.listing.specs.Listing.{fieldText, outcomeText}

@@ -1,14 +1,14 @@
 // A line of the listing, or the two that the witness has in its place where it reads state.
 use crate::readout;
 use crate::words;
-use publish::Field;
-use publish::Outcome;
+use response::Field;
+use response::Outcome;
 use table::State;
 ghost use Prim.Native.Nat.{_+_, _≤_};
 ghost use lib.ListN.{length};
 ghost use Rattle.laws.specs.Wrote.{Wrote};
 ghost use Rattle.listing.specs.Listing.{fieldText, outcomeText};
-ghost use Rattle.publish.specs.declared.Outcome.the-variants.{Refused, Granted};
+ghost use Rattle.response.specs.declared.Outcome.the-variants.{Refused, Granted};
 ghost use Rattle.frames.specs.Shown.{shownText, lineText};
 
 // What came of a line: the result of adding, the outcome of a request, the state that was read with the length of the default body, or that

@@ -7,8 +7,8 @@ use lib.ListN.{replicate}
 use Rattle.laws.specs.Bytes.{bytes}
 use Rattle.record.specs.Places.{emptyRecord}
 use Rattle.record.specs.Address.{padded}
-use Rattle.publish.specs.declared.Field.the-variants.{Nothing, Allow, AllowEvents, Accept, RetryAfter}
-use Rattle.publish.specs.declared.Outcome.the-variants.{Silent, Refused, Granted}
+use Rattle.response.specs.declared.Field.the-variants.{Nothing, Allow, AllowEvents, Accept, RetryAfter}
+use Rattle.response.specs.declared.Outcome.the-variants.{Silent, Refused, Granted}
 use Rattle.table.specs.Table.{Table}
 use Rattle.table.specs.Add.{added}
 use Rattle.table.specs.Handle.{done}

@@ -4,10 +4,10 @@ use mathlib.Core.List.{List, [], _∷_, _++_}
 use Rattle.laws.specs.Bytes.{bytes}
 use Rattle.text.specs.Digits.{decimalOf}
 use Rattle.tag.specs.Written.{tagText}
-use Rattle.publish.specs.declared.Field.{Field}
-use Rattle.publish.specs.declared.Field.the-variants.{Nothing, Allow, AllowEvents, MinExpires, Accept, RetryAfter}
-use Rattle.publish.specs.declared.Outcome.{Outcome}
-use Rattle.publish.specs.declared.Outcome.the-variants.{Silent, Refused, Granted}
+use Rattle.response.specs.declared.Field.{Field}
+use Rattle.response.specs.declared.Field.the-variants.{Nothing, Allow, AllowEvents, MinExpires, Accept, RetryAfter}
+use Rattle.response.specs.declared.Outcome.{Outcome}
+use Rattle.response.specs.declared.Outcome.the-variants.{Silent, Refused, Granted}
 use Rattle.table.specs.Table.{Table}
 use Rattle.table.specs.Open.{After}
 use Rattle.table.specs.Add.{added}

@@ -7,7 +7,7 @@ use Rattle.table.specs.Table.{Table}
 use Rattle.table.specs.Add.{Entry}
 use Rattle.table.specs.Handle.{Input, done}
 use Rattle.table.specs.Run.{Given, begun, ran}
-use Rattle.publish.specs.declared.Outcome.{Outcome}
+use Rattle.response.specs.declared.Outcome.{Outcome}
 use Rattle.listing.specs.Lent.{zeroTable, lentBuffer, sending}
 
 -- an address added with start 0, and so many tags spent

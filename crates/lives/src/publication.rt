@@ -4,7 +4,7 @@ use crate::script::Life;
 use crate::script::Turn;
 use page::output;
 use record::Record;
-use record::Success;
+use success::Success;
 use view::words;
 ghost use Prim.Native.Nat.{_≤_, _<_};
 ghost use lib.ListN.{length};
@@ -37,15 +37,15 @@ fn with_room(store: &mut [u8], x: Success, r: Record, body: &[u8]) -> Record
         return r;
     }
     if x.length == 0 {
-        return record::after::succeed(store, 0, x, r, body);
+        return success::after::succeed(store, 0, x, r, body);
     }
     if x.granted == 0 {
-        return record::after::succeed(store, 0, x, r, body);
+        return success::after::succeed(store, 0, x, r, body);
     }
-    if !record::after::has_room(x, r) {
+    if !success::after::has_room(x, r) {
         return r;
     }
-    record::after::succeed(store, 0, x, r, body)
+    success::after::succeed(store, 0, x, r, body)
 }
 
 // What stands against a publication: 0 nothing, 1 back, 2 unmatched, 3 empty, 4 spent, 5 full.
@@ -71,7 +71,7 @@ fn refused(r: Record, clock: u64, granted: u32, presents: bool, k: usize, body: 
     if granted == 0 {
         return 0;
     }
-    if record::freed::live_count(r, clock) == 8 {
+    if success::freed::live_count(r, clock) == 8 {
         return 5;
     }
     0

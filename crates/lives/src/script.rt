@@ -52,7 +52,7 @@ fn begin(out: &mut [u8], at: usize, store: &mut [u8], life: Life, f: &[u8]) -> T
     if store.len() < 4096 {
         return bad(out, at, life);
     }
-    record::store::zero_part(store, 0);
+    success::store::zero_part(store, 0);
     let r = fresh(number::four(f, 1) as u32, number::four(f, 5) as u32);
     let p = output::bytes(out, at, b" begins\n");
     let next = Life {

@@ -19,7 +19,7 @@ use Rattle.record.specs.Packages.{packageAt, isListed}
 use Rattle.record.specs.Places.{places, live, matching}
 use Rattle.record.specs.declared.Record.{Record}
 use Rattle.record.proofs.Held.{Held, held-slots}
-use Rattle.record.proofs.StoreLaws.{placesIn-length}
+use Rattle.success.proofs.StoreLaws.{placesIn-length}
 use Rattle.publish.specs.Refusals.{eventOf, requested, granted, presented, isBadEvent, isUnmatched, isTooBrief, isOtherType, isNothing, isFull}
 use Rattle.publish.specs.Asked.{askedOf}
 use Rattle.publish.specs.declared.Asked.{Asked}

@@ -7,7 +7,7 @@ use lib.ListN.{getD}
 use Rattle.laws.specs.Choose.{pick}
 use Rattle.laws.specs.First.{Row, firstOf, tests}
 use Rattle.publish.specs.Refusal.{refusalIn, isRefusal, orElse}
-use Rattle.publish.specs.declared.Outcome.{Outcome}
+use Rattle.response.specs.declared.Outcome.{Outcome}
 use Rattle.publish.specs.declared.Refusal.{Refusal}
 use Rattle.publish.specs.declared.Refusal.the-variants.{First, NoneApplies}
 

@@ -1,6 +1,4 @@
-pub mod Outcomes
 pub mod Refusals
-pub mod Message
 pub mod Step
 pub mod All
 pub mod Refusal

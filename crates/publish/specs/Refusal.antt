@@ -3,7 +3,7 @@ use mathlib.Core.Bool.{Bool, true, false}
 use mathlib.Core.List.{List, [], _∷_}
 use Rattle.laws.specs.Choose.{pick}
 use Rattle.laws.specs.First.{Row}
-use Rattle.publish.specs.declared.Outcome.{Outcome}
+use Rattle.response.specs.declared.Outcome.{Outcome}
 use Rattle.publish.specs.declared.Refusal.{Refusal}
 use Rattle.publish.specs.declared.Refusal.the-variants.{First, NoneApplies}
 

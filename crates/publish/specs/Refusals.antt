@@ -16,12 +16,12 @@ use Rattle.request.specs.Fields.{expires, isBadRequest, bodyLength, eventText, 
 use Rattle.record.specs.Packages.{Package, packageAt, packageNamed, isListed}
 use Rattle.record.specs.Places.{live, leastEnd, smaller, matching}
 use Rattle.record.specs.Sound.{latestClock}
-use Rattle.record.specs.After.{givenTag}
+use Rattle.success.specs.After.{givenTag}
 use Rattle.record.specs.declared.Record.{Record}
-use Rattle.publish.specs.declared.Field.{Field}
-use Rattle.publish.specs.declared.Field.the-variants.{Nothing, Allow, AllowEvents, MinExpires, Accept, RetryAfter}
-use Rattle.publish.specs.declared.Outcome.{Outcome}
-use Rattle.publish.specs.declared.Outcome.the-variants.{Silent, Refused, Granted}
+use Rattle.response.specs.declared.Field.{Field}
+use Rattle.response.specs.declared.Field.the-variants.{Nothing, Allow, AllowEvents, MinExpires, Accept, RetryAfter}
+use Rattle.response.specs.declared.Outcome.{Outcome}
+use Rattle.response.specs.declared.Outcome.the-variants.{Silent, Refused, Granted}
 
 -- everything that a request is tried against: the sizes lent, whether every record is sound, whether the address is in the
 -- table, its record (all zero where it is not), the clock, the request's bytes and what its head says

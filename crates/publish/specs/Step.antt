@@ -5,13 +5,13 @@ use mathlib.Core.List.{List, []}
 use Rattle.laws.specs.Choose.{pick}
 use Rattle.request.specs.Fields.{hasMatch, body, bodyLength}
 use Rattle.request.specs.declared.Head.{Head}
-use Rattle.record.specs.After.{recordAfter, partAfter}
+use Rattle.success.specs.After.{recordAfter, partAfter}
 use Rattle.record.specs.declared.Record.{Record}
-use Rattle.record.specs.declared.Success.{Success}
-use Rattle.publish.specs.Outcomes.{isSilent, isSuccess}
+use Rattle.success.specs.declared.Success.{Success}
+use Rattle.response.specs.Outcomes.{isSilent, isSuccess}
 use Rattle.publish.specs.Refusals.{Case, eventOf, granted, presented, outcomeOf}
-use Rattle.publish.specs.Message.{message}
-use Rattle.publish.specs.declared.Outcome.{Outcome}
+use Rattle.response.specs.Message.{message}
+use Rattle.response.specs.declared.Outcome.{Outcome}
 
 -- the success that a request is at a record, where no refusal applies
 unfoldable pub successFor : Record → ℕ → List ℕ → Head → Success

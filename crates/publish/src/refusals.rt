@@ -1,13 +1,13 @@
 // The refusals, in the order tried. Each function answers the first of its rows that applies, or that none does.
 use crate::Asked;
-use crate::Field;
-use crate::Outcome;
 use crate::Refusal;
 use record::Record;
 use request::Head;
 use request::ToValue;
 use request::fields;
 use request::names;
+use response::Field;
+use response::Outcome;
 ghost use mathlib.Core.Path.{_≡_};
 ghost use mathlib.Core.Bool.{_&&_, _||_, not};
 ghost use Prim.Native.Nat.{_-_};
@@ -20,12 +20,12 @@ ghost use Rattle.request.specs.Head.{absent, valueNamed};
 ghost use Rattle.request.specs.Fields.{hasType, hasMatch};
 ghost use Rattle.record.specs.Packages.{packageAt, isListed};
 ghost use Rattle.record.specs.Places.{live, leastEnd};
-ghost use Rattle.record.specs.After.{givenTag};
-ghost use Rattle.publish.specs.Outcomes.{isSuccess};
+ghost use Rattle.success.specs.After.{givenTag};
+ghost use Rattle.response.specs.Outcomes.{isSuccess};
 ghost use Rattle.publish.specs.Refusals.{isBadSize, sizeRows, readingRows, addressRows, contentRows, roomRows, requestRows, granted};
 ghost use Rattle.publish.specs.Refusal.{refusalIn, isRefusal, orElse};
 ghost use Rattle.publish.specs.Asked.{askedOf};
-ghost use Rattle.publish.specs.declared.Outcome.the-variants.{Granted};
+ghost use Rattle.response.specs.declared.Outcome.the-variants.{Granted};
 
 // Whether the request succeeds.
 pub fn is_success(o: Outcome) -> bool
@@ -214,7 +214,7 @@ fn is_full(granted: u32, r: Record, clock: u64, h: Head) -> bool
     if granted == 0 {
         return false;
     }
-    record::freed::live_count(r, clock) == 8
+    success::freed::live_count(r, clock) == 8
 }
 
 // The seconds until the least end.

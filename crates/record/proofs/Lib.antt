@@ -8,10 +8,3 @@ pub mod WalkLaws
 pub mod SoundLaws
 pub mod AddressLaws
 pub mod CompareLaws
-pub mod StoreLaws
-pub mod Cleared
-pub mod FreedLaws
-pub mod ClearLaws
-pub mod Stands
-pub mod AfterLaws
-pub mod SuccessLaws

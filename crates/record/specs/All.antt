@@ -5,9 +5,7 @@ use Rattle.record.specs.Map.{lowestFreeIn, occupiedIn, hasPlace, withPla
 use Rattle.record.specs.Places.{isInUse, isWhole, placesIn, places, mapOf, slotsOf, occupied, isLive, live, smaller, leastFrom, leastEnd, matching, lowestFree, isOf, newest}
 use Rattle.record.specs.Address.{isAddress, addressOf, padded, hasAddress, sameAddress, isFor}
 use Rattle.record.specs.Sound.{isSoundSlot, tagsDiffer, numbersDiffer, slotsDiffer, isSound, addressesDiffer, allSound}
-use Rattle.record.specs.Store.{roomAt, partAt, partOf, withPart, room, cleared}
-use Rattle.record.specs.After.{successNumber, givenTag, freed, freedAt, freedPlaces, isMatch, hasBody, writtenSlot, written, endedPlaces, writtenPlaces, placesAfter, recordAfter, withBody, partAfter}
 
 unfoldable pub all-record : ℕ
-unfolding packages packageAt packageNamed isListed lowestFreeIn occupiedIn hasPlace withPlace withoutPlace isInUse isWhole placesIn places mapOf slotsOf occupied isLive live smaller leastFrom leastEnd matching lowestFree isOf newest isAddress addressOf padded hasAddress sameAddress isFor isSoundSlot tagsDiffer numbersDiffer slotsDiffer isSound addressesDiffer allSound roomAt partAt partOf withPart room cleared successNumber givenTag freed freedAt freedPlaces isMatch hasBody writtenSlot written endedPlaces writtenPlaces placesAfter recordAfter withBody partAfter
+unfolding packages packageAt packageNamed isListed lowestFreeIn occupiedIn hasPlace withPlace withoutPlace isInUse isWhole placesIn places mapOf slotsOf occupied isLive live smaller leastFrom leastEnd matching lowestFree isOf newest isAddress addressOf padded hasAddress sameAddress isFor isSoundSlot tagsDiffer numbersDiffer slotsDiffer isSound addressesDiffer allSound
 all-record = 0

@@ -3,6 +3,4 @@ pub mod Map
 pub mod Places
 pub mod Address
 pub mod Sound
-pub mod Store
-pub mod After
 pub mod All

@@ -1,12 +1,9 @@
-// One resource record: an address with its eight slots, and its 4,096 bytes of the store.
+// One resource record: an address with its eight slots, and when it is sound.
 pub mod address;
-pub mod after;
-pub mod freed;
 pub mod map;
 pub mod packages;
 pub mod slots;
 pub mod sound;
-pub mod store;
 
 // A slot: package, tag, end clock, body length, and the edition of its body (its body number): the success number that last set it.
 #[repr(C)]
@@ -28,14 +25,4 @@ pub struct Record {
     pub clock: u64,
     pub map: u8,
     pub slots: [Slot; 8],
-}
-
-// What a success does: its clock and package, the slot matched (8 where no tag was presented), the time granted,
-// and the length of the body given (0 where there is none).
-pub struct Success {
-    pub clock: u64,
-    pub event: u8,
-    pub slot: u8,
-    pub granted: u32,
-    pub length: u16,
 }

@@ -15,7 +15,7 @@ use Rattle.laws.proofs.Tests.{and-left, and-right}
 use Rattle.record.specs.Address.{isAddress}
 use Rattle.record.specs.Address
 use Rattle.record.specs.Places.{emptyRecord, isInUse}
-use Rattle.record.specs.Store.{partOf, partAt, withPart}
+use Rattle.success.specs.Store.{partOf, partAt, withPart}
 use Rattle.record.specs.declared.Record.{Record}
 use Rattle.record.proofs.AddressLaws.{address-of}
 use Rattle.table.specs.Table.{Table, placeFor, isKnown, recordAt, withRecord}

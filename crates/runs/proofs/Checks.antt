@@ -12,7 +12,7 @@ use Rattle.laws.specs.Lists.{any}
 use Rattle.request.specs.Head.{headOf}
 use Rattle.request.specs.Fields.{isBadMatch}
 use Rattle.publish.specs.Refusals.{isBadSize, isBadEvent, refusals, sizeRows, requestRows, readingRows, addressRows}
-use Rattle.publish.specs.declared.Outcome.{Outcome}
+use Rattle.response.specs.declared.Outcome.{Outcome}
 use Rattle.table.specs.Table.{Table, badSize, isKnown}
 use Rattle.table.specs.Handle.{caseOf}
 use Rattle.table.specs.Run.{Sending}

@@ -9,13 +9,13 @@ use borrow.Author.Tests.{ltb-false, not-true}
 use Rattle.laws.specs.First.{firstOf}
 use Rattle.laws.specs.Lists.{any, every}
 use Rattle.request.specs.Head.{headOf}
-use Rattle.record.specs.After.{givenTag}
+use Rattle.success.specs.After.{givenTag}
 use Rattle.record.specs.Places.{emptyRecord}
 use Rattle.record.specs.declared.Record.{Record}
-use Rattle.publish.specs.Outcomes.{resultOf}
+use Rattle.response.specs.Outcomes.{resultOf}
 use Rattle.publish.specs.Refusals.{outcomeOf, refusals, sizeRows, readingRows, requestRows, addressRows, contentRows, roomRows, isBadSize, granted}
-use Rattle.publish.specs.declared.Outcome.{Outcome}
-use Rattle.publish.specs.declared.Outcome.the-variants.{Granted}
+use Rattle.response.specs.declared.Outcome.{Outcome}
+use Rattle.response.specs.declared.Outcome.the-variants.{Granted}
 use Rattle.table.specs.Table.{Table, placeFor, isKnown, recordAt}
 use Rattle.table.specs.Add.{Entry}
 use Rattle.table.specs.Handle.{Input}

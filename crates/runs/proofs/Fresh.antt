@@ -11,10 +11,10 @@ use Rattle.tag.specs.Tag.{tagOf}
 use Rattle.tag.specs.Written.{tagText}
 use Rattle.tag.proofs.Tag.{tag-below, tags-differ}
 use Rattle.tag.proofs.Written.{tag-text-once}
-use Rattle.record.specs.After.{givenTag, successNumber, recordAfter}
+use Rattle.success.specs.After.{givenTag, successNumber, recordAfter}
 use Rattle.record.specs.declared.Record.{Record}
-use Rattle.record.specs.declared.Success.{Success}
-use Rattle.publish.specs.Outcomes.{isSuccess}
+use Rattle.success.specs.declared.Success.{Success}
+use Rattle.response.specs.Outcomes.{isSuccess}
 use Rattle.publish.specs.Refusals.{Case, outcomeOf}
 use Rattle.publish.specs.Step.{successOf, ownAfter, partAfterwards}
 use Rattle.table.specs.Handle.{Input}

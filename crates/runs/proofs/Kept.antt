@@ -13,14 +13,14 @@ use Rattle.laws.proofs.Tests.{and-left, every-head, every-tail}
 use Rattle.tag.specs.Given.{SomeGives}
 use Rattle.tag.proofs.Tag.{tag-below, tags-differ}
 use Rattle.record.specs.Places.{Place, places, placesIn, isLive}
-use Rattle.record.specs.After.{successNumber, givenTag, writtenSlot, written, placesAfter, recordAfter}
+use Rattle.success.specs.After.{successNumber, givenTag, writtenSlot, written, placesAfter, recordAfter}
 use Rattle.record.specs.declared.Record.{Record}
-use Rattle.record.specs.declared.Success.{Success}
+use Rattle.success.specs.declared.Success.{Success}
 use Rattle.record.proofs.Places.{placeAt, Apart, Came, apart-after}
-use Rattle.record.proofs.Stands.{IsNew, IsOld, stands}
-use Rattle.record.proofs.StoreLaws.{slotsOf-length, placesAfter-length}
-use Rattle.record.proofs.AfterLaws.{places-after}
-use Rattle.publish.specs.Outcomes.{isSuccess}
+use Rattle.success.proofs.Stands.{IsNew, IsOld, stands}
+use Rattle.success.proofs.StoreLaws.{slotsOf-length, placesAfter-length}
+use Rattle.success.proofs.AfterLaws.{places-after}
+use Rattle.response.specs.Outcomes.{isSuccess}
 use Rattle.publish.specs.Refusals.{Case, outcomeOf}
 use Rattle.publish.specs.Step.{successOf, ownAfter}
 use Rattle.table.specs.Add.{Entry, freshRecord}

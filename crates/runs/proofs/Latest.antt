@@ -7,9 +7,9 @@ use native.Mathlib.Omega.{arith}
 use lib.Dec.{leb}
 use borrow.Author.Tests.{leb-true, le-leb}
 use Rattle.laws.specs.Lists.{every, those}
-use Rattle.record.specs.After.{recordAfter}
+use Rattle.success.specs.After.{recordAfter}
 use Rattle.record.specs.declared.Record.{Record}
-use Rattle.publish.specs.Outcomes.{isSuccess}
+use Rattle.response.specs.Outcomes.{isSuccess}
 use Rattle.publish.specs.Refusals.{outcomeOf}
 use Rattle.publish.specs.Step.{successOf, successFor, ownAfter, partAfterwards}
 use Rattle.table.specs.Handle.{Input}

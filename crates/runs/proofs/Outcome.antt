@@ -8,12 +8,12 @@ use Rattle.laws.specs.First.{Row, firstOf}
 use Rattle.laws.specs.Lists.{any, every}
 use Rattle.laws.proofs.Rows.{none-applied, none-applies}
 use Rattle.request.specs.Head.{headOf}
-use Rattle.record.specs.After.{givenTag}
+use Rattle.success.specs.After.{givenTag}
 use Rattle.record.specs.declared.Record.{Record}
 use Rattle.publish.specs.Refusals.{isBadSize, refusals, sizeRows, requestRows, addressRows, contentRows, roomRows, outcomeOf, granted}
 use Rattle.publish.specs.Step.{answerOf}
-use Rattle.publish.specs.declared.Outcome.{Outcome}
-use Rattle.publish.specs.declared.Outcome.the-variants.{Granted}
+use Rattle.response.specs.declared.Outcome.{Outcome}
+use Rattle.response.specs.declared.Outcome.the-variants.{Granted}
 use Rattle.table.specs.Handle.{Input}
 use Rattle.runs.specs.Reach.{rowsBefore, isRead}
 use Rattle.runs.specs.Alone.{caseAt, answered}

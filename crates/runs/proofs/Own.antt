@@ -12,11 +12,11 @@ use Rattle.request.specs.Fields.{body}
 use Rattle.record.specs.Address.{addressOf, sameAddress}
 use Rattle.record.specs.Address
 use Rattle.record.specs.Places.{emptyRecord, isInUse, isWhole}
-use Rattle.record.specs.Store.{partOf}
+use Rattle.success.specs.Store.{partOf}
 use Rattle.record.specs.declared.Record.{Record}
-use Rattle.record.proofs.StoreLaws.{partAfter-length, whole-slots}
-use Rattle.record.proofs.AfterLaws.{Keeps, keeps, in-use-kept}
-use Rattle.publish.specs.Outcomes.{isSuccess}
+use Rattle.success.proofs.StoreLaws.{partAfter-length, whole-slots}
+use Rattle.success.proofs.AfterLaws.{Keeps, keeps, in-use-kept}
+use Rattle.response.specs.Outcomes.{isSuccess}
 use Rattle.publish.specs.Refusals.{Case, outcomeOf, refusals, sizeRows, requestRows, readingRows, isBadSize}
 use Rattle.publish.specs.Step.{successOf, ownAfter, partAfterwards}
 use Rattle.table.specs.Table.{Table, placeFor, isKnown, recordAt}

@@ -10,7 +10,7 @@ use lib.Dec.{eqb}
 use lib.ListN.{length, replicate}
 use Rattle.laws.specs.Lists.{any}
 use Rattle.laws.proofs.Tests.{and-left}
-use Rattle.publish.specs.Outcomes.{resultOf}
+use Rattle.response.specs.Outcomes.{resultOf}
 use Rattle.table.specs.Add.{freshRecord}
 use Rattle.table.specs.Run.{begun}
 use Rattle.runs.specs.Run.{Run, given, exchanges, tableAtEnd, inputs}

@@ -13,9 +13,9 @@ use Rattle.laws.specs.First.{firstOf}
 use Rattle.laws.specs.Lists.{every}
 use Rattle.laws.proofs.Tests.{every-head, every-tail}
 use Rattle.request.specs.Head.{headOf, uriOf}
-use Rattle.record.specs.Store.{partOf}
+use Rattle.success.specs.Store.{partOf}
 use Rattle.record.specs.declared.Record.{Record}
-use Rattle.publish.specs.Outcomes.{isSuccess}
+use Rattle.response.specs.Outcomes.{isSuccess}
 use Rattle.publish.specs.Refusals.{Case, isBadSize, refusals, sizeRows, outcomeOf}
 use Rattle.publish.specs.Step.{answerOf, successOf, ownAfter, partAfterwards}
 use Rattle.table.specs.Table.{Table, badSize, placeFor, isKnown, recordAt}

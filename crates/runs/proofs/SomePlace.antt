@@ -17,12 +17,12 @@ use Rattle.laws.proofs.Tests.{same-equal, place-holds}
 use Rattle.tag.specs.Written.{isTagText}
 use Rattle.tag.proofs.Written.{tag-text-once}
 use Rattle.record.specs.Places.{Place, freePlace, places, lowestFree}
-use Rattle.record.specs.After.{freed, freedPlaces, isMatch, writtenSlot, written, endedPlaces, writtenPlaces, placesAfter}
+use Rattle.success.specs.After.{freed, freedPlaces, isMatch, writtenSlot, written, endedPlaces, writtenPlaces, placesAfter}
 use Rattle.record.specs.declared.Record.{Record}
-use Rattle.record.specs.declared.Success.{Success}
+use Rattle.success.specs.declared.Success.{Success}
 use Rattle.record.proofs.Places.{placeAt}
-use Rattle.record.proofs.Stands.{freed-at}
-use Rattle.record.proofs.StoreLaws.{placesIn-length, freedPlaces-length}
+use Rattle.success.proofs.Stands.{freed-at}
+use Rattle.success.proofs.StoreLaws.{placesIn-length, freedPlaces-length}
 use Rattle.laws.proofs.Bools.{or-turned}
 use Rattle.runs.proofs.Kept.{Kept, small}
 

@@ -15,14 +15,14 @@ use Rattle.request.specs.Head.{headOf}
 use Rattle.request.specs.Fields.{hasMatch}
 use Rattle.tag.specs.Written.{isTagText}
 use Rattle.record.specs.Places.{Place, freePlace, places, isLive, matching}
-use Rattle.record.specs.After.{givenTag, isMatch, written}
+use Rattle.success.specs.After.{givenTag, isMatch, written}
 use Rattle.record.specs.declared.Record.{Record}
 use Rattle.record.proofs.Places.{placeAt}
-use Rattle.record.proofs.StoreLaws.{placesIn-length, freedAt-length}
-use Rattle.publish.specs.Outcomes.{isSuccess}
+use Rattle.success.proofs.StoreLaws.{placesIn-length, freedAt-length}
+use Rattle.response.specs.Outcomes.{isSuccess}
 use Rattle.publish.specs.Refusals.{Case, outcomeOf, refusals, presented, granted}
 use Rattle.publish.specs.Step.{successOf, successFor}
-use Rattle.publish.specs.declared.Outcome.the-variants.{Granted}
+use Rattle.response.specs.declared.Outcome.the-variants.{Granted}
 use Rattle.table.specs.Handle.{Input}
 use Rattle.table.specs.Run.{Exchange}
 use Rattle.table.proofs.OneRecord.{none-refusing}

@@ -11,12 +11,12 @@ use Rattle.laws.specs.Choose.{pick}
 use Rattle.laws.specs.Lists.{any, every, those}
 use Rattle.laws.proofs.Tests.{and-left, and-right}
 use Rattle.record.specs.Places.{Place, freePlace, places, isLive}
-use Rattle.record.specs.After.{freed, written, recordAfter}
+use Rattle.success.specs.After.{freed, written, recordAfter}
 use Rattle.record.specs.declared.Record.{Record}
-use Rattle.record.specs.declared.Success.{Success}
+use Rattle.success.specs.declared.Success.{Success}
 use Rattle.record.proofs.Places.{placeAt}
-use Rattle.record.proofs.AfterLaws.{places-after}
-use Rattle.publish.specs.Outcomes.{isSuccess}
+use Rattle.success.proofs.AfterLaws.{places-after}
+use Rattle.response.specs.Outcomes.{isSuccess}
 use Rattle.publish.specs.Refusals.{outcomeOf}
 use Rattle.publish.specs.Step.{successOf, successFor, ownAfter}
 use Rattle.table.specs.Handle.{Input}

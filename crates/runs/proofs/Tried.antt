@@ -13,14 +13,14 @@ use Rattle.laws.specs.Lists.{any, every}
 use Rattle.request.specs.Head.{headOf}
 use Rattle.request.specs.Fields.{isBadMatch}
 use Rattle.record.specs.Places.{places, matching}
-use Rattle.record.specs.After.{givenTag}
+use Rattle.success.specs.After.{givenTag}
 use Rattle.record.specs.declared.Record.{Record}
-use Rattle.record.proofs.StoreLaws.{placesIn-length}
-use Rattle.publish.specs.Outcomes.{statusOf}
+use Rattle.success.proofs.StoreLaws.{placesIn-length}
+use Rattle.response.specs.Outcomes.{statusOf}
 use Rattle.publish.specs.Refusals.{addressRows, contentRows, roomRows, isUnmatched, isBadEvent, presented, granted}
-use Rattle.publish.specs.declared.Outcome.{Outcome}
-use Rattle.publish.specs.declared.Outcome.the-variants.{Refused, Granted}
-use Rattle.publish.specs.declared.Field.the-variants.{Nothing}
+use Rattle.response.specs.declared.Outcome.{Outcome}
+use Rattle.response.specs.declared.Outcome.the-variants.{Refused, Granted}
+use Rattle.response.specs.declared.Field.the-variants.{Nothing}
 use Rattle.table.specs.Handle.{Input}
 use Rattle.runs.specs.Reach.{isRead}
 use Rattle.runs.specs.Alone.{caseAt, answered}

@@ -12,7 +12,7 @@ use Rattle.laws.specs.Lists.{part, putAt}
 use Rattle.laws.proofs.Parts.{put-part, put-part-before, put-part-behind}
 use Rattle.record.specs.Address.{isFor}
 use Rattle.record.specs.Places.{emptyRecord}
-use Rattle.record.specs.Store.{partOf, partAt, withPart}
+use Rattle.success.specs.Store.{partOf, partAt, withPart}
 use Rattle.record.specs.declared.Record.{Record}
 use Rattle.table.specs.Table.{Table, badSize, placeFor, isKnown, recordAt, withRecord}
 use Rattle.table.proofs.OneRecord.{part-lies}

@@ -5,7 +5,7 @@ use mathlib.Core.List.{List, [], _∷_}
 use lib.ListN.{length, replicate}
 use Rattle.request.specs.Head.{headOf}
 use Rattle.record.specs.Places.{emptyRecord}
-use Rattle.record.specs.Store.{partOf}
+use Rattle.success.specs.Store.{partOf}
 use Rattle.record.specs.declared.Record.{Record}
 use Rattle.publish.specs.Refusals.{Case, outcomeOf}
 use Rattle.publish.specs.Step.{answerOf, ownAfter, partAfterwards}

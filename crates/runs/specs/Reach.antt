@@ -9,7 +9,7 @@ use Rattle.laws.specs.Lists.{any, those}
 use Rattle.request.specs.Head.{headOf, uriOf}
 use Rattle.record.specs.Address.{sameAddress}
 use Rattle.publish.specs.Refusals.{sizeRows, readingRows}
-use Rattle.publish.specs.declared.Outcome.{Outcome}
+use Rattle.response.specs.declared.Outcome.{Outcome}
 use Rattle.table.specs.Handle.{Input}
 use Rattle.table.specs.Run.{Exchange}
 use Rattle.runs.specs.Run.{Run, exchanges, inputs}

@@ -8,10 +8,10 @@ use Rattle.laws.specs.Lists.{any, every, those, pairwise, same}
 use Rattle.request.specs.Head.{headOf}
 use Rattle.request.specs.Fields.{hasMatch, matchText, isBadMatch}
 use Rattle.tag.specs.Written.{tagText, isTagText}
-use Rattle.publish.specs.Outcomes.{isSuccess, statusOf}
+use Rattle.response.specs.Outcomes.{isSuccess, statusOf}
 use Rattle.publish.specs.Refusals.{eventOf, isBadEvent}
-use Rattle.publish.specs.declared.Outcome.{Outcome}
-use Rattle.publish.specs.declared.Outcome.the-variants.{Silent, Refused, Granted}
+use Rattle.response.specs.declared.Outcome.{Outcome}
+use Rattle.response.specs.declared.Outcome.the-variants.{Silent, Refused, Granted}
 use Rattle.table.specs.Handle.{Input}
 use Rattle.table.specs.Run.{Exchange}
 use Rattle.runs.specs.Reach.{Moment}

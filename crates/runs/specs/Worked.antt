@@ -12,7 +12,7 @@ use Rattle.tag.specs.Written.{isTagText}
 use Rattle.record.specs.Places.{zeroSlot}
 use Rattle.record.specs.declared.Slot.{Slot}
 use Rattle.record.specs.declared.Record.{Record}
-use Rattle.publish.specs.Outcomes.{resultOf}
+use Rattle.response.specs.Outcomes.{resultOf}
 use Rattle.table.specs.Table.{Table}
 use Rattle.table.specs.Add.{Entry}
 use Rattle.table.specs.Handle.{Input}

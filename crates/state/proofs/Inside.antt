@@ -16,7 +16,7 @@ use Rattle.record.specs.Address.{isFor}
 use Rattle.record.specs.Packages.{packageNamed}
 use Rattle.record.specs.Places.{emptyRecord, isInUse, freePlace, places, isLive, isOf, newest}
 use Rattle.record.specs.Sound.{isSound, allSound}
-use Rattle.record.specs.Store.{partAt, roomAt}
+use Rattle.success.specs.Store.{partAt, roomAt}
 use Rattle.record.specs.declared.Record.{Record}
 use Rattle.record.proofs.Places.{placeAt}
 use Rattle.record.proofs.SoundLaws.{sound-found}

@@ -13,7 +13,7 @@ use Rattle.laws.specs.Lists.{every, placeOf}
 use Rattle.laws.proofs.Rows.{none-refused}
 use Rattle.record.specs.Address.{isAddress}
 use Rattle.record.specs.Places.{emptyRecord}
-use Rattle.record.specs.Store.{withPart}
+use Rattle.success.specs.Store.{withPart}
 use Rattle.record.specs.declared.Record.{Record}
 use Rattle.record.proofs.AddressLaws.{address-length}
 use Rattle.lent.specs.Look.{looksSound, isLookFor}

@@ -12,12 +12,12 @@ use Rattle.request.specs.Head.{headOf}
 use Rattle.request.specs.Fields.{hasMatch, bodyLength, body}
 use Rattle.request.specs.declared.Head.{Head}
 use Rattle.record.specs.Places.{Place, freePlace, places, mapOf, occupied, live, lowestFree}
-use Rattle.record.specs.After.{freedAt}
+use Rattle.success.specs.After.{freedAt}
 use Rattle.record.specs.declared.Record.{Record}
 use Rattle.record.proofs.Places.{placeAt}
 use Rattle.publish.specs.Refusals.{eventOf, granted, presented}
-use Rattle.publish.specs.declared.Outcome.{Outcome}
-use Rattle.publish.specs.declared.Outcome.the-variants.{Granted}
+use Rattle.response.specs.declared.Outcome.{Outcome}
+use Rattle.response.specs.declared.Outcome.the-variants.{Granted}
 use Rattle.table.specs.Handle.{Input}
 
 module _ (x : Input) where

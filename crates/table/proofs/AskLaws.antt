@@ -11,12 +11,12 @@ use Rattle.laws.proofs.Parts.{part-size}
 use Rattle.request.specs.Fields.{there, bodyLength, body}
 use Rattle.request.specs.declared.Head.{Head}
 use Rattle.request.proofs.FieldLaws.{body-there}
-use Rattle.record.specs.After.{writtenSlot}
+use Rattle.success.specs.After.{writtenSlot}
 use Rattle.record.specs.declared.Record.{Record}
-use Rattle.record.specs.declared.Success.{Success}
+use Rattle.success.specs.declared.Success.{Success}
 use Rattle.record.proofs.Held.{Held, held-slots}
-use Rattle.record.proofs.StoreLaws.{freedAt-length}
-use Rattle.publish.specs.Outcomes.{isSuccess}
+use Rattle.success.proofs.StoreLaws.{freedAt-length}
+use Rattle.response.specs.Outcomes.{isSuccess}
 use Rattle.publish.specs.Refusals.{outcomeOf}
 use Rattle.publish.specs.Asked.{askedOf}
 use Rattle.publish.specs.Step.{successFor, successOf}

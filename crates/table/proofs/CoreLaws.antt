@@ -9,16 +9,16 @@ use Rattle.laws.specs.First.{firstOf}
 use Rattle.request.specs.Head.{isReadable}
 use Rattle.request.specs.Fields.{body}
 use Rattle.request.specs.declared.Head.{Head}
-use Rattle.record.specs.Store.{partOf, withPart}
-use Rattle.record.specs.After.{recordAfter, partAfter}
+use Rattle.success.specs.Store.{partOf, withPart}
+use Rattle.success.specs.After.{recordAfter, partAfter}
 use Rattle.record.specs.declared.Record.{Record}
-use Rattle.record.specs.declared.Success.{Success}
-use Rattle.publish.specs.Outcomes.{isSilent, isSuccess}
+use Rattle.success.specs.declared.Success.{Success}
+use Rattle.response.specs.Outcomes.{isSilent, isSuccess}
 use Rattle.publish.specs.Refusals.{Case, requestRows, readingRows, outcomeOf}
 use Rattle.publish.specs.Refusal.{refusalIn, isRefusal}
-use Rattle.publish.specs.Message.{message}
+use Rattle.response.specs.Message.{message}
 use Rattle.publish.specs.Step.{answerOf, successFor, successOf, partAfterwards}
-use Rattle.publish.specs.declared.Outcome.{Outcome}
+use Rattle.response.specs.declared.Outcome.{Outcome}
 use Rattle.table.specs.Looked.{caseWith, handleOut, handleStore, handleAnswer}
 use Rattle.table.specs.declared.handling.Begun.{Begun}
 use Rattle.table.specs.declared.handling.Settled.{Settled}

@@ -11,12 +11,12 @@ use Rattle.laws.specs.Lists.{every}
 use Rattle.laws.specs.First.{Row, row, firstOf}
 use Rattle.laws.proofs.Tests.{every-head, every-tail}
 use Rattle.laws.proofs.Rows.{first-append}
-use Rattle.record.specs.After.{givenTag}
-use Rattle.publish.specs.Outcomes.{isSilent}
+use Rattle.success.specs.After.{givenTag}
+use Rattle.response.specs.Outcomes.{isSilent}
 use Rattle.publish.specs.Refusals.{Case, granted, refusals, sizeRows, requestRows, outcomeOf}
 use Rattle.publish.specs.Refusal.{refusalIn, isRefusal, orElse}
-use Rattle.publish.specs.declared.Outcome.{Outcome}
-use Rattle.publish.specs.declared.Outcome.the-variants.{Silent, Granted}
+use Rattle.response.specs.declared.Outcome.{Outcome}
+use Rattle.response.specs.declared.Outcome.the-variants.{Silent, Granted}
 use Rattle.publish.specs.declared.Refusal.{Refusal}
 use Rattle.publish.specs.declared.Refusal.the-variants.{First, NoneApplies}
 use Rattle.publish.proofs.RefusedLaws.{none-refuses, else-first, refused-first, passed-first}

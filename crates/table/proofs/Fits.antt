@@ -6,11 +6,11 @@ use Prim.Native.Nat.{ℕ, _≤_}
 use native.Mathlib.Omega.{arith}
 use lib.ListN.{length}
 use Rattle.laws.specs.Choose.{pick}
-use Rattle.publish.specs.Outcomes.{isSilent}
+use Rattle.response.specs.Outcomes.{isSilent}
 use Rattle.publish.specs.Refusals.{outcomeOf}
-use Rattle.publish.specs.Message.{message}
+use Rattle.response.specs.Message.{message}
 use Rattle.publish.specs.Step.{answerOf}
-use Rattle.publish.proofs.FitsLaws.{message-fits}
+use Rattle.response.proofs.FitsLaws.{message-fits}
 use Rattle.table.specs.Table.{Table}
 use Rattle.table.specs.Handle.{Input, caseOf, doneWith, done}
 use Rattle.table.proofs.CoreLaws.{due}

@@ -19,12 +19,12 @@ use Rattle.request.specs.Fields.{bodyLength, hasMatch}
 use Rattle.record.specs.Packages.{isListed}
 use Rattle.record.specs.Places.{freePlace, places, isLive, live, lowestFree, matching}
 use Rattle.record.specs.Sound.{latestClock}
-use Rattle.record.specs.After.{freedAt, freedPlaces, isMatch, writtenSlot}
+use Rattle.success.specs.After.{freedAt, freedPlaces, isMatch, writtenSlot}
 use Rattle.record.specs.declared.Record.{Record}
 use Rattle.record.proofs.Places.{placeAt}
-use Rattle.record.proofs.StoreLaws.{placesIn-length}
-use Rattle.record.proofs.FreedLaws.{count-live}
-use Rattle.publish.specs.Outcomes.{isSuccess}
+use Rattle.success.proofs.StoreLaws.{placesIn-length}
+use Rattle.success.proofs.FreedLaws.{count-live}
+use Rattle.response.specs.Outcomes.{isSuccess}
 use Rattle.publish.specs.Refusals.{Case, isBadSize, eventOf, granted, presented, isBadEvent, isUnmatched, isNothing, isFull, refusals, sizeRows, requestRows, readingRows, addressRows, contentRows, roomRows, outcomeOf}
 use Rattle.publish.specs.Step.{successFor, successOf}
 use Rattle.table.proofs.OneRecord.{none-refusing}

@@ -15,17 +15,17 @@ use Rattle.laws.specs.Lists.{every, placeOf}
 use Rattle.request.specs.Head.{headOf, uriOf}
 use Rattle.record.specs.Places.{emptyRecord}
 use Rattle.record.specs.Sound.{allSound}
-use Rattle.record.specs.Store.{partOf, withPart}
-use Rattle.record.specs.After.{recordAfter}
+use Rattle.success.specs.Store.{partOf, withPart}
+use Rattle.success.specs.After.{recordAfter}
 use Rattle.record.specs.declared.Record.{Record}
 use Rattle.lent.specs.Sixteen.{recordAt as lentAt}
 use Rattle.lent.specs.Look.{lookOf, looksOf}
 use Rattle.lent.specs.declared.look.Look.{Look}
 use Rattle.lent.proofs.LookLaws.{isLong, front-looks, place-looks, unused-looks, looks-sound}
-use Rattle.publish.specs.Outcomes.{isSilent, isSuccess}
+use Rattle.response.specs.Outcomes.{isSilent, isSuccess}
 use Rattle.publish.specs.Refusals.{Case, isBadSize, sizeRows, refusals, outcomeOf}
 use Rattle.publish.specs.Step.{answerOf, successOf, ownAfter, partAfterwards}
-use Rattle.publish.specs.declared.Outcome.the-variants.{Silent}
+use Rattle.response.specs.declared.Outcome.the-variants.{Silent}
 use Rattle.table.specs.Table.{Table, badSize, placeFor, isKnown, recordAt, withRecord}
 use Rattle.table.specs.Open.{After, openRefusals, emptied, opened}
 use Rattle.table.specs.Add.{Entry, addRefusals, lowestUnused, freshRecord, added}

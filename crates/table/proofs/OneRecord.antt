@@ -17,10 +17,10 @@ use Rattle.laws.proofs.Parts.{put-length, put-before, put-behind}
 use Rattle.request.specs.Head.{headOf, uriOf}
 use Rattle.request.specs.Fields.{body}
 use Rattle.record.specs.Places.{isWhole, emptyRecord}
-use Rattle.record.specs.Store.{partAt, partOf, withPart}
+use Rattle.success.specs.Store.{partAt, partOf, withPart}
 use Rattle.record.specs.declared.Record.{Record}
-use Rattle.record.proofs.StoreLaws.{partAfter-length, whole-slots}
-use Rattle.publish.specs.Outcomes.{isSuccess}
+use Rattle.success.proofs.StoreLaws.{partAfter-length, whole-slots}
+use Rattle.response.specs.Outcomes.{isSuccess}
 use Rattle.publish.specs.Refusals.{Case, isBadSize, refusals, sizeRows, requestRows, readingRows, addressRows, contentRows, roomRows, outcomeOf}
 use Rattle.publish.specs.Step.{successOf, ownAfter, partAfterwards}
 use Rattle.table.specs.Table.{Table, badSize, placeFor, isKnown, recordAt, withRecord}

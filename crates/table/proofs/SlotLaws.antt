@@ -11,13 +11,13 @@ use Rattle.laws.specs.Lists.{every}
 use Rattle.request.specs.Head.{headOf, uriOf}
 use Rattle.request.specs.Fields.{hasMatch}
 use Rattle.record.specs.Places.{freePlace, isWhole, places}
-use Rattle.record.specs.After.{successNumber, givenTag, freed, freedPlaces, isMatch, hasBody, writtenSlot, written, placesAfter}
+use Rattle.success.specs.After.{successNumber, givenTag, freed, freedPlaces, isMatch, hasBody, writtenSlot, written, placesAfter}
 use Rattle.record.specs.declared.Record.{Record}
-use Rattle.record.specs.declared.Success.{Success}
+use Rattle.success.specs.declared.Success.{Success}
 use Rattle.record.proofs.Places.{placeAt}
-use Rattle.record.proofs.StoreLaws.{freedAt-length, freedPlaces-length, whole-slots}
-use Rattle.record.proofs.Stands.{live-stays, written-place, ended-place, other-place}
-use Rattle.publish.specs.Outcomes.{isSuccess}
+use Rattle.success.proofs.StoreLaws.{freedAt-length, freedPlaces-length, whole-slots}
+use Rattle.success.proofs.Stands.{live-stays, written-place, ended-place, other-place}
+use Rattle.response.specs.Outcomes.{isSuccess}
 use Rattle.publish.specs.Refusals.{outcomeOf}
 use Rattle.publish.specs.Step.{successFor, successOf}
 use Rattle.table.specs.Table.{Table, placeFor, recordAt}

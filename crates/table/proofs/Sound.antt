@@ -18,13 +18,13 @@ use Rattle.request.specs.Fields.{hasMatch, bodyLength}
 use Rattle.record.specs.Places.{emptyRecord, isInUse, occupied, places, placesIn, slotsOf, isLive, smaller}
 use Rattle.record.specs.Address.{isAddress, addressOf, sameAddress, isFor}
 use Rattle.record.specs.Sound.{slotsDiffer, isSound, addressesDiffer, allSound}
-use Rattle.record.specs.After.{recordAfter}
+use Rattle.success.specs.After.{recordAfter}
 use Rattle.record.specs.declared.Record.{Record}
 use Rattle.record.proofs.AddressLaws.{address-of, has-address}
 use Rattle.record.proofs.Places.{placeAt}
-use Rattle.record.proofs.StoreLaws.{whole-slots}
-use Rattle.record.proofs.AfterLaws.{Rests, Keeps, keeps, in-use-kept, sound-after}
-use Rattle.publish.specs.Outcomes.{isSuccess}
+use Rattle.success.proofs.StoreLaws.{whole-slots}
+use Rattle.success.proofs.AfterLaws.{Rests, Keeps, keeps, in-use-kept, sound-after}
+use Rattle.response.specs.Outcomes.{isSuccess}
 use Rattle.publish.specs.Refusals.{Case, granted, presented, outcomeOf}
 use Rattle.publish.specs.Step.{successFor, successOf}
 use Rattle.table.specs.Table.{Table, badSize, placeFor, isKnown, recordAt, withRecord}

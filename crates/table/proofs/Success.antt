@@ -18,19 +18,19 @@ use Rattle.laws.proofs.Parts.{part-at, part-is, put-length, put-before, put-beh
 use Rattle.tag.specs.Tag.{tagOf}
 use Rattle.request.specs.Head.{headOf, uriOf}
 use Rattle.record.specs.Places.{emptyRecord, isWhole}
-use Rattle.record.specs.Store.{roomAt, partAt, partOf, withPart}
-use Rattle.record.specs.After.{successNumber, givenTag, hasBody, placesAfter, recordAfter, withBody, partAfter}
+use Rattle.success.specs.Store.{roomAt, partAt, partOf, withPart}
+use Rattle.success.specs.After.{successNumber, givenTag, hasBody, placesAfter, recordAfter, withBody, partAfter}
 use Rattle.record.specs.declared.Record.{Record}
-use Rattle.record.specs.declared.Success.{Success}
+use Rattle.success.specs.declared.Success.{Success}
 use Rattle.record.proofs.Places.{placeAt, taken-below}
-use Rattle.record.proofs.StoreLaws.{slotsOf-length, placesAfter-length, partAfter-length}
-use Rattle.record.proofs.Stands.{run-out, place-stays}
-use Rattle.record.proofs.AfterLaws.{places-after, live-after, byte-after, zero-outside}
-use Rattle.record.proofs.SuccessLaws.{part-whole, byte-of, byte-in}
-use Rattle.publish.specs.Outcomes.{isSuccess}
+use Rattle.success.proofs.StoreLaws.{slotsOf-length, placesAfter-length, partAfter-length}
+use Rattle.success.proofs.Stands.{run-out, place-stays}
+use Rattle.success.proofs.AfterLaws.{places-after, live-after, byte-after, zero-outside}
+use Rattle.success.proofs.SuccessLaws.{part-whole, byte-of, byte-in}
+use Rattle.response.specs.Outcomes.{isSuccess}
 use Rattle.publish.specs.Refusals.{refusals, outcomeOf}
 use Rattle.publish.specs.Step.{successFor, successOf, partAfterwards}
-use Rattle.publish.specs.declared.Outcome.the-variants.{Granted}
+use Rattle.response.specs.declared.Outcome.the-variants.{Granted}
 use Rattle.table.specs.Table.{Table, placeFor, recordAt, withRecord}
 use Rattle.table.specs.Handle.{Input, done, doneWith, caseOf, tableAfter}
 use Rattle.table.proofs.AfterSuccess.{head, time, given, size, slot, from, AfterSuccess}

@@ -7,10 +7,10 @@ use lib.ListN.{length, drop}
 use borrow.Author.Tests.{ne-eqb}
 use Rattle.laws.specs.Choose.{pick}
 use Rattle.laws.specs.First.{firstOf}
-use Rattle.publish.specs.Outcomes.{isSilent, isSuccess}
+use Rattle.response.specs.Outcomes.{isSilent, isSuccess}
 use Rattle.publish.specs.Refusals.{Case, outcomeOf}
 use Rattle.publish.specs.Step.{answerOf}
-use Rattle.publish.specs.Message.{message}
+use Rattle.response.specs.Message.{message}
 use Rattle.table.specs.Table.{Table, badSize}
 use Rattle.table.specs.Open.{opened, openRefusals, emptied}
 use Rattle.table.specs.Add.{Entry, added, addRefusals}

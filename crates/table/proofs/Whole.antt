@@ -14,12 +14,12 @@ use Rattle.laws.proofs.Tests.{and-left, and-right, every-at, every-set, every-c
 use Rattle.request.specs.Head.{headOf, uriOf}
 use Rattle.record.specs.Places.{emptyRecord, isWhole}
 use Rattle.record.specs.Address.{isAddress}
-use Rattle.record.specs.After.{successNumber, recordAfter}
+use Rattle.success.specs.After.{successNumber, recordAfter}
 use Rattle.record.specs.declared.Record.{Record}
-use Rattle.record.specs.declared.Success.{Success}
+use Rattle.success.specs.declared.Success.{Success}
 use Rattle.record.proofs.AddressLaws.{padded-length}
-use Rattle.record.proofs.StoreLaws.{whole-after}
-use Rattle.publish.specs.Outcomes.{isSuccess}
+use Rattle.success.proofs.StoreLaws.{whole-after}
+use Rattle.response.specs.Outcomes.{isSuccess}
 use Rattle.publish.specs.Refusals.{outcomeOf}
 use Rattle.publish.specs.Step.{successOf, ownAfter}
 use Rattle.table.specs.Table.{Table, badSize, placeFor, isKnown, recordAt, withRecord}

@@ -6,8 +6,8 @@ use lib.ListN.{length, drop}
 use Rattle.laws.specs.Choose.{pick}
 use Rattle.request.specs.Head.{headOf, uriOf}
 use Rattle.record.specs.Sound.{allSound}
-use Rattle.record.specs.Store.{partOf}
-use Rattle.publish.specs.Outcomes.{isSuccess}
+use Rattle.success.specs.Store.{partOf}
+use Rattle.response.specs.Outcomes.{isSuccess}
 use Rattle.publish.specs.Refusals.{Case, outcomeOf}
 use Rattle.publish.specs.Step.{answerOf, ownAfter, partAfterwards}
 use Rattle.table.specs.Table.{Table, placeFor, isKnown, recordAt, withRecord}

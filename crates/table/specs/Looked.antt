@@ -12,16 +12,16 @@ use Rattle.laws.specs.Lists.{part, placeOf}
 use Rattle.request.specs.Head.{headOf, uriOf}
 use Rattle.record.specs.Address.{isAddress}
 use Rattle.record.specs.Places.{emptyRecord, smaller}
-use Rattle.record.specs.Store.{partOf, withPart}
-use Rattle.record.specs.After.{recordAfter}
+use Rattle.success.specs.Store.{partOf, withPart}
+use Rattle.success.specs.After.{recordAfter}
 use Rattle.record.specs.declared.Record.{Record}
 use Rattle.lent.specs.Look.{looksSound, isLookFor}
 use Rattle.lent.specs.declared.look.Look.{Look}
-use Rattle.publish.specs.Outcomes.{isSuccess}
+use Rattle.response.specs.Outcomes.{isSuccess}
 use Rattle.publish.specs.Refusals.{Case, isBadSize, sizeRows, outcomeOf}
 use Rattle.publish.specs.Step.{answerOf, successOf, partAfterwards}
-use Rattle.publish.specs.declared.Outcome.{Outcome}
-use Rattle.publish.specs.declared.Outcome.the-variants.{Silent}
+use Rattle.response.specs.declared.Outcome.{Outcome}
+use Rattle.response.specs.declared.Outcome.the-variants.{Silent}
 use Rattle.table.specs.Add.{Entry, freshRecord}
 use Rattle.table.specs.declared.looks.Sought.{Sought}
 use Rattle.table.specs.declared.adding.Added.{Added}

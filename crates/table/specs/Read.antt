@@ -11,7 +11,7 @@ use Rattle.laws.specs.Lists.{part}
 use Rattle.record.specs.Packages.{packageNamed, isListed}
 use Rattle.record.specs.Places.{freePlace, places, newest}
 use Rattle.record.specs.Sound.{latestClock, allSound}
-use Rattle.record.specs.Store.{partAt, roomAt}
+use Rattle.success.specs.Store.{partAt, roomAt}
 use Rattle.record.specs.declared.Record.{Record}
 use Rattle.table.specs.Table.{Table, badSize, placeFor, isKnown, recordAt}
 use Rattle.table.specs.declared.Shown.{Shown}

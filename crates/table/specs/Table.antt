@@ -7,7 +7,7 @@ use lib.ListN.{length, getD, set}
 use Rattle.laws.specs.Lists.{placeOf}
 use Rattle.record.specs.Places.{emptyRecord}
 use Rattle.record.specs.Address.{isFor}
-use Rattle.record.specs.Store.{partOf, withPart}
+use Rattle.success.specs.Store.{partOf, withPart}
 use Rattle.record.specs.declared.Record.{Record}
 use Rattle.publish.specs.Refusals.{isBadSize}
 

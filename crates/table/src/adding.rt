@@ -88,7 +88,7 @@ pub fn add_looked(
         };
     }
     let i = looks::lowest_unused(ls, n);
-    record::store::zero_part(store, i);
+    success::store::zero_part(store, i);
     Added {
         result: 0,
         index: i,

@@ -3,17 +3,17 @@ use crate::Handled;
 use crate::looks;
 use lent::look::Look;
 use publish::Asked;
-use publish::Outcome;
 use publish::Refusal;
 use publish::asking;
-use publish::message;
 use publish::refusals;
 use record::Record;
-use record::Success;
 use request::Head;
 use request::ToValue;
 use request::fields;
 use request::reading;
+use response::Outcome;
+use response::message;
+use success::Success;
 ghost use mathlib.Core.Path.{_≡_};
 ghost use mathlib.Core.Bool.{true, false};
 ghost use mathlib.Core.List.{[], _++_};
@@ -23,11 +23,11 @@ ghost use Rattle.laws.specs.Choose.{pick};
 ghost use Rattle.request.specs.Names.{To};
 ghost use Rattle.request.specs.To.{toValue};
 ghost use Rattle.request.specs.Head.{headOf, valueNamed, isReadable};
-ghost use Rattle.publish.specs.Outcomes.{isSilent};
+ghost use Rattle.response.specs.Outcomes.{isSilent};
 ghost use Rattle.publish.specs.Refusals.{outcomeOf};
 ghost use Rattle.publish.specs.Refusal.{refusalIn};
 ghost use Rattle.publish.specs.Asked.{askedOf};
-ghost use Rattle.publish.specs.Message.{message};
+ghost use Rattle.response.specs.Message.{message};
 ghost use Rattle.table.specs.Looked.{begunOf, caseWith, earlyRows, handleOut, handleStore, handleAnswer};
 
 // What is known of a request before its record is taken out: whether all records are sound, the place of its address (past the end
@@ -172,7 +172,7 @@ pub fn finish(
     }
     let x = success_for(a, clock);
     let body = fields::body_of(request, head, a.length);
-    let kept = record::after::succeed(store, b.place, x, own, body);
+    let kept = success::after::succeed(store, b.place, x, own, body);
     Settled {
         handled,
         index: b.place,

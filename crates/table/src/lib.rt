@@ -6,7 +6,7 @@ pub mod handling;
 pub mod looks;
 pub mod opening;
 
-use publish::Outcome;
+use response::Outcome;
 
 // What a handled request comes back with: its outcome, and the message's length (0 where there is none).
 pub struct Handled {

@@ -1,7 +1,7 @@
 -- Each outcome has its numbers.
 use mathlib.Core.Path.{refl}
 use borrow.Author.Needs.{needs}
-use Rattle.publish.specs.Outcomes.{resultOf, statusOf}
+use Rattle.response.specs.Outcomes.{resultOf, statusOf}
 use Rattle.exported.specs.Numbers.{tagNumber, secondsOf, handledNumbers}
 use Rattle.exported.proofs.numbers.handled_numbers.Statement.{statement}
 use Rattle.exported.proofs.numbers.handled_numbers.Tie as tie

@@ -3,7 +3,7 @@ use mathlib.Core.Path.{sym, _∙_}
 use native.Mathlib.Omega.{arith}
 use borrow.Author.Tests.{ltb-true, not-false}
 use borrow.Author.Needs.{needs}
-use Rattle.record.specs.After.{writtenSlot}
+use Rattle.success.specs.After.{writtenSlot}
 use Rattle.lives.proofs.publication.with_room.Statement.{statement}
 use Rattle.lives.proofs.publication.with_room.Tie as tie
 

@@ -1,6 +1,6 @@
 -- In each arm the outcome is the one that the arm names, and the definition answers it so.
 use borrow.Author.Needs.{needs}
-use Rattle.publish.specs.Outcomes.{isSuccess}
+use Rattle.response.specs.Outcomes.{isSuccess}
 use Rattle.publish.proofs.refusals.is_success.Statement.{statement}
 use Rattle.publish.proofs.refusals.is_success.Tie as tie
 

@@ -1,7 +1,7 @@
 -- The first refusal comes back, and without one the success with its tag and its time.
 use mathlib.Core.Path.{_∙_}
 use borrow.Author.Needs.{needs}
-use Rattle.record.specs.After.{successNumber, givenTag}
+use Rattle.success.specs.After.{successNumber, givenTag}
 use Rattle.publish.proofs.AskedLaws.{asked-granted}
 use Rattle.publish.proofs.RefusedLaws.{else-first}
 use Rattle.publish.proofs.refusals.request_outcome.Statement.{statement}

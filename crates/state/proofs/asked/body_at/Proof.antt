@@ -7,7 +7,7 @@ use Prim.Native.Nat.{_+_, _*_}
 use Rattle.record.specs.declared.Slot.{Slot}
 use Rattle.table.specs.declared.Shown.the-variants.{Stored}
 use Rattle.record.specs.Places.{places}
-use Rattle.record.specs.Store.{partAt, roomAt}
+use Rattle.success.specs.Store.{partAt, roomAt}
 use Rattle.table.specs.Read.{bodyAt}
 use Rattle.state.proofs.ReadLaws.{place-slot}
 use borrow.Author.Needs.{needs}

@@ -5,7 +5,7 @@ use mathlib.Core.Bool.{true}
 use lib.ListN.{length}
 use borrow.Author.Needs.{needs}
 use Rattle.laws.proofs.Tests.{turned-fails, turned-holds}
-use Rattle.publish.specs.Outcomes.{isSilent, isSuccess}
+use Rattle.response.specs.Outcomes.{isSilent, isSuccess}
 use Rattle.publish.specs.Refusals.{Case, outcomeOf}
 use Rattle.publish.proofs.AskedLaws.{asked-length, asked-to}
 use Rattle.table.specs.Looked.{caseWith}

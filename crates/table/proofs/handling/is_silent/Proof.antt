@@ -1,6 +1,6 @@
 -- In each arm the outcome is the one that the arm names, and the definition answers it so.
 use borrow.Author.Needs.{needs}
-use Rattle.publish.specs.Outcomes.{isSilent}
+use Rattle.response.specs.Outcomes.{isSilent}
 use Rattle.table.proofs.handling.is_silent.Statement.{statement}
 use Rattle.table.proofs.handling.is_silent.Tie as tie
 

@@ -1,0 +1,4 @@
+pub mod FitsLaws
+pub mod MessageLaws
+pub mod OnceLaws
+pub mod ViaLaws

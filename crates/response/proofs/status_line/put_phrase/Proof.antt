@@ -1,0 +1,94 @@
+-- Each of the first four codes has its phrase, and another is left to those behind.
+use borrow.Author.Needs.{needs}
+use borrow.Author.Tests.{ne-eqb}
+use Rattle.response.specs.Outcomes.{phraseIn, phrases, phraseOf}
+use Rattle.response.proofs.status_line.put_phrase.Statement.{statement}
+use Rattle.response.proofs.status_line.put_phrase.Tie as tie
+
+slice-aggregate-put : tie.Need-slice-aggregate-put
+slice-aggregate-put c = search needs
+
+put-requires : tie.Need-put-requires
+put-requires c κs = search needs
+
+slice-aggregate-put-2 : tie.Need-slice-aggregate-put-2
+slice-aggregate-put-2 c = search needs
+
+put-requires-2 : tie.Need-put-requires-2
+put-requires-2 c κs = search needs
+
+slice-aggregate-put-3 : tie.Need-slice-aggregate-put-3
+slice-aggregate-put-3 c = search needs
+
+put-requires-3 : tie.Need-put-requires-3
+put-requires-3 c κs = search needs
+
+slice-aggregate-put-4 : tie.Need-slice-aggregate-put-4
+slice-aggregate-put-4 c = search needs
+
+put-requires-4 : tie.Need-put-requires-4
+put-requires-4 c κs = search needs
+
+put-late-phrase-requires : tie.Need-put-late-phrase-requires
+put-late-phrase-requires c κs = search needs
+
+same-length : tie.Need-same-length
+same-length c = search needs
+
+returns : tie.Need-returns
+unfolding phraseIn phrases phraseOf
+returns c = rw (c .before .before .before .before .before .match .keys1) (c .before .before .put .ensures)
+
+same-length-2 : tie.Need-same-length-2
+same-length-2 c = search needs
+
+returns-2 : tie.Need-returns-2
+unfolding phraseIn phrases phraseOf
+returns-2 c = rw (c .before .before .before .before .before .match .keys2) (c .before .before .put2 .ensures)
+
+same-length-3 : tie.Need-same-length-3
+same-length-3 c = search needs
+
+returns-3 : tie.Need-returns-3
+unfolding phraseIn phrases phraseOf
+returns-3 c = rw (c .before .before .before .before .before .match .keys3) (c .before .before .put3 .ensures)
+
+same-length-4 : tie.Need-same-length-4
+same-length-4 c = search needs
+
+returns-4 : tie.Need-returns-4
+unfolding phraseIn phrases phraseOf
+returns-4 c = rw (c .before .before .before .before .before .match .keys4) (c .before .before .put4 .ensures)
+
+same-length-5 : tie.Need-same-length-5
+same-length-5 c = search needs
+
+returns-5 : tie.Need-returns-5
+unfolding phraseIn phrases phraseOf
+returns-5 c =
+    let r = c .before .before .before .before .match .rest in
+    rw (ne-eqb _ _ (r .0 .0 .0 .1), ne-eqb _ _ (r .0 .0 .1), ne-eqb _ _ (r .0 .1), ne-eqb _ _ (r .1)) (c .before .before .put-late-phrase .ensures)
+
+pub put-phrase-spec : {M : Type 1} → statement M
+put-phrase-spec =
+    tie.close
+    (tie.spec
+    slice-aggregate-put
+    put-requires
+    slice-aggregate-put-2
+    put-requires-2
+    slice-aggregate-put-3
+    put-requires-3
+    slice-aggregate-put-4
+    put-requires-4
+    put-late-phrase-requires
+    same-length
+    returns
+    same-length-2
+    returns-2
+    same-length-3
+    returns-3
+    same-length-4
+    returns-4
+    same-length-5
+    returns-5)
