@@ -6,7 +6,8 @@ use crate::handle::{handle, NoMessage, Written};
 use crate::message::LEAST_ANSWER_BUFFER;
 use crate::read_state::{state_shown, NotShown, Shown};
 use crate::reading_in::Reading;
-use crate::table::{add, open, Record, MOST_RECORDS, PART_SIZE};
+use crate::record::Record;
+use crate::table::{add, open, MOST_RECORDS, PART_SIZE};
 
 pub const TO_NUMBER: u32 = 1;
 

@@ -8,13 +8,14 @@ use crate::bench::Outcome;
 use crate::generate::Generator;
 use crate::handle::NoMessage;
 use crate::message::Answer;
+use crate::names::Name;
 use crate::read_state::{NotShown, Shown};
 use crate::reading_in::Lack;
 use crate::reading_kinds::{Case, KINDS};
 use crate::refusals::Refusal;
-use crate::request::{Name, Unreadable};
 use crate::success::Kind;
 use crate::turn::Turn;
+use crate::unreadable::Unreadable;
 
 /// The rows that a frame can reach, in the order of the paper. A frame is
 /// counted in one of them; those of reading state are bad to the bench.

@@ -34,3 +34,21 @@ pub fn reading_frame(reading: &Reading) -> Vec<u8> {
 pub fn frame_line(frame: &[u8]) -> Vec<u8> {
     hex(frame).into_bytes()
 }
+
+#[cfg(test)]
+mod tests {
+    use super::*;
+    use crate::reading_in::read_reading;
+
+    #[test]
+    fn lengths_up_to_255_are_read_back() {
+        let reading = Reading {
+            clock: u64::MAX,
+            address: vec![b'a'; 255],
+            package: vec![b'p'; 128],
+            default: vec![b'd'; 300],
+        };
+        let line = frame_line(&reading_frame(&reading));
+        assert_eq!(read_reading(&line), Some(Ok(reading)));
+    }
+}

@@ -2,6 +2,7 @@
 //! over, each made into a line that suits what the engine holds just then.
 
 mod attempt;
+mod dead_tags;
 mod draft;
 mod faults;
 pub mod for_table;
@@ -11,6 +12,7 @@ mod oddities;
 pub mod random;
 mod reading_aims;
 mod reading_names;
+mod reading_wants;
 mod readings;
 pub mod requests;
 mod scene;
@@ -24,14 +26,15 @@ mod world;
 use std::io::{self, Write};
 
 use crate::frames_out::add_frame;
-use crate::table::{Record, MOST_RECORDS};
+use crate::record::Record;
+use crate::table::MOST_RECORDS;
 use crate::tags::STEP;
 use crate::turn::Turn;
 use attempt::{Attempt, Wish};
 use faults::Fault;
 use random::Random;
 use reading_aims::must_wait;
-use readings::Want;
+use reading_wants::Want;
 use world::World;
 pub use world::{CROWD, FULL, LATE};
 
@@ -188,7 +191,7 @@ fn deal_reading(deck: &mut Vec<Want>, world: &World, random: &mut Random) -> Wan
         if let Some(place) = place {
             return deck.remove(place);
         }
-        deck.extend(readings::ALL);
+        deck.extend(reading_wants::ALL);
         random.shuffle(deck);
     }
 }

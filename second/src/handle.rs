@@ -1,12 +1,14 @@
 //! One call: one whole request in, one whole response out, or none.
 
 use crate::message::{write_message, Answer, LEAST_ANSWER_BUFFER};
+use crate::record::{Record, CLOCK_LIMIT};
 use crate::refusals::try_all;
-use crate::request::{read_request, Request, Unreadable};
+use crate::request::{read_request, Request};
 use crate::results::*;
 use crate::sound::all_sound;
 use crate::success::succeed;
-use crate::table::{part_mut, sizes_are_right, Record, CLOCK_LIMIT};
+use crate::table::{part_mut, sizes_are_right};
+use crate::unreadable::Unreadable;
 
 pub const LONGEST_REQUEST: usize = 4096;
 

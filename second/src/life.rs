@@ -3,11 +3,12 @@
 
 use crate::packages;
 use crate::read_state::shown_slot;
+use crate::record::{Record, SLOTS};
 use crate::refusals::*;
 use crate::script_in::{Publication, ScriptLine};
 use crate::sound::all_sound;
 use crate::success::succeed;
-use crate::table::{add, Record, PART_SIZE, SLOTS};
+use crate::table::{add, PART_SIZE};
 
 pub const ADDRESS: &[u8] = b"ann";
 

@@ -1,8 +1,10 @@
 //! The answer, byte by byte.
 
+use crate::header_lines::HeaderLine;
+use crate::names::Name;
 use crate::packages;
 use crate::refusals::Refusal;
-use crate::request::{HeaderLine, Name, Request};
+use crate::request::Request;
 use crate::success::Success;
 use crate::text::eight_hex_digits;
 

@@ -6,7 +6,7 @@ use std::io::{self, Write};
 use crate::counts::{unreadable_row, REACHABLE};
 use crate::generate::requests::Requests;
 use crate::reads::{reading_of, request_bytes, Reading, Said};
-use crate::request::Unreadable;
+use crate::unreadable::Unreadable;
 
 /// The outcomes of a readable request.
 pub const SAID: [&str; 12] = [

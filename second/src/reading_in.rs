@@ -52,7 +52,6 @@ fn counted(bytes: &[u8], no_length: Lack, too_few: Lack) -> Result<(&[u8], &[u8]
 #[cfg(test)]
 mod tests {
     use super::*;
-    use crate::frames_out::{frame_line, reading_frame};
 
     #[test]
     fn a_reading_in_either_case() {
@@ -76,18 +75,6 @@ mod tests {
             default: vec![],
         };
         assert_eq!(read_reading(b"0200000000000000000000"), Some(Ok(reading)));
-    }
-
-    #[test]
-    fn lengths_up_to_255() {
-        let reading = Reading {
-            clock: u64::MAX,
-            address: vec![b'a'; 255],
-            package: vec![b'p'; 128],
-            default: vec![b'd'; 300],
-        };
-        let line = frame_line(&reading_frame(&reading));
-        assert_eq!(read_reading(&line), Some(Ok(reading)));
     }
 
     #[test]

@@ -4,7 +4,8 @@
 use crate::packages::{package_named, NAMES};
 use crate::read_state::{shown_slot, NotShown, Shown};
 use crate::reading_in::Reading;
-use crate::table::{record_of, Record, Slot, CLOCK_LIMIT};
+use crate::record::{Record, Slot, CLOCK_LIMIT};
+use crate::table::record_of;
 use crate::tags::number_of;
 
 /// One reading, what came of it, and the records it was made of.

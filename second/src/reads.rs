@@ -6,9 +6,11 @@ use std::io::{BufRead, Write};
 use crate::frames_in::{bytes_of_digits, next_line};
 use crate::handle::LONGEST_REQUEST;
 use crate::listing::Trouble;
+use crate::names::Name;
 use crate::refusals::{content_length, cseq_is_well_formed, expires, match_is_one_token, Refusal};
-use crate::request::{read_any_request, Name, Request, Unreadable};
+use crate::request::{read_any_request, Request};
 use crate::text::{hex_or_dash, up_to_semicolon_or_blank};
+use crate::unreadable::Unreadable;
 
 /// Two digits for each byte of a request.
 pub const MOST_DIGITS: usize = 2 * LONGEST_REQUEST;

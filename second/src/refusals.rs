@@ -1,9 +1,11 @@
 //! The one list of refusals that have a message, each row a function, tried in
 //! the paper's order. What passes it is accepted and cannot fail any more.
 
+use crate::names::Name;
 use crate::packages;
-use crate::request::{Name, Request};
-use crate::table::{record_of, Record, BODY_SIZE};
+use crate::record::{Record, BODY_SIZE};
+use crate::request::Request;
+use crate::table::record_of;
 use crate::tags::presents;
 use crate::text::*;
 

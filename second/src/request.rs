@@ -1,82 +1,13 @@
-//! Reading a request: its first line, its header lines and their names, and
+//! Reading a request: its first line, the header lines that must stand, and
 //! which bytes are its body. Nothing is copied out of the request.
 
-use crate::text::*;
+use crate::header_lines::{named, read_header_lines, HeaderLine};
+use crate::names::Name;
+use crate::text::{are_visible, is_token, same_in_either_case, take_line};
 use crate::to_tag::has_tag;
+use crate::unreadable::Unreadable;
 
 pub const MOST_HEADER_LINES: usize = 64;
-
-/// The header fields that the paper reads.
-#[derive(Clone, Copy, Debug, PartialEq, Eq)]
-pub enum Name {
-    Via,
-    From,
-    To,
-    CallId,
-    Cseq,
-    ContentType,
-    ContentLength,
-    Event,
-    Expires,
-    SipIfMatch,
-}
-
-impl Name {
-    pub fn full(self) -> &'static str {
-        match self {
-            Name::Via => "Via",
-            Name::From => "From",
-            Name::To => "To",
-            Name::CallId => "Call-ID",
-            Name::Cseq => "CSeq",
-            Name::ContentType => "Content-Type",
-            Name::ContentLength => "Content-Length",
-            Name::Event => "Event",
-            Name::Expires => "Expires",
-            Name::SipIfMatch => "SIP-If-Match",
-        }
-    }
-
-    pub fn compact(self) -> Option<&'static str> {
-        match self {
-            Name::Via => Some("v"),
-            Name::From => Some("f"),
-            Name::To => Some("t"),
-            Name::CallId => Some("i"),
-            Name::ContentType => Some("c"),
-            Name::ContentLength => Some("l"),
-            Name::Event => Some("o"),
-            Name::Cseq | Name::Expires | Name::SipIfMatch => None,
-        }
-    }
-
-    fn is_written(self, name: &[u8]) -> bool {
-        let matches = |text: &str| same_in_either_case(text.as_bytes(), name);
-        matches(self.full()) || self.compact().map_or(false, matches)
-    }
-}
-
-/// Why a request is unreadable, or gets no answer though it was read.
-#[derive(Clone, Copy, Debug, PartialEq, Eq)]
-pub enum Unreadable {
-    FirstLine,
-    HeaderLine,
-    NoEmptyLine,
-    TooManyLines,
-    Absent(Name),
-    Repeated(Name),
-    OpenQuote,
-    OpenAngle,
-    Ack,
-}
-
-#[derive(Clone, Copy, Debug, PartialEq, Eq)]
-pub struct HeaderLine<'a> {
-    pub name: &'a [u8],
-    pub value: &'a [u8],
-    /// As it came, without its CR LF.
-    pub line: &'a [u8],
-}
 
 #[derive(Clone, Debug, PartialEq, Eq)]
 pub struct Request<'a> {
@@ -140,12 +71,6 @@ pub fn read_any_request(bytes: &[u8]) -> Result<Request<'_>, Unreadable> {
     })
 }
 
-/// The bytes before the next CR LF, and those after it.
-fn take_line(bytes: &[u8]) -> Option<(&[u8], &[u8])> {
-    let end = bytes.windows(2).position(|pair| pair == b"\r\n")?;
-    Some((&bytes[..end], &bytes[end + 2..]))
-}
-
 /// Method, one space, Request-URI, one space, SIP/2.0.
 fn read_first_line(line: &[u8]) -> Option<(&[u8], &[u8])> {
     let (method, rest) = split_at_space(line)?;
@@ -164,41 +89,6 @@ fn read_first_line(line: &[u8]) -> Option<(&[u8], &[u8])> {
 fn split_at_space(bytes: &[u8]) -> Option<(&[u8], &[u8])> {
     let space = bytes.iter().position(|&byte| byte == b' ')?;
     Some((&bytes[..space], &bytes[space + 1..]))
-}
-
-/// The header lines before the empty line, and the bytes after it.
-fn read_header_lines(bytes: &[u8]) -> Result<(Vec<HeaderLine<'_>>, &[u8]), Unreadable> {
-    let mut lines = Vec::new();
-    let mut left = bytes;
-    loop {
-        let (line, rest) = take_line(left).ok_or(Unreadable::NoEmptyLine)?;
-        left = rest;
-        if line.is_empty() {
-            return Ok((lines, left));
-        }
-        lines.push(read_header_line(line).ok_or(Unreadable::HeaderLine)?);
-    }
-}
-
-/// A token, spaces or tabs or none, a colon, the value.
-fn read_header_line(line: &[u8]) -> Option<HeaderLine<'_>> {
-    let (name, rest) = line.split_at(front_of(line, TOKEN));
-    let rest = &rest[front_of(rest, BLANK)..];
-    match rest.split_first() {
-        Some((b':', value)) if !name.is_empty() && all_are(value, VALUE) => Some(HeaderLine {
-            name,
-            value: without_outer_blanks(value),
-            line,
-        }),
-        _ => None,
-    }
-}
-
-fn named<'l, 'a>(
-    lines: &'l [HeaderLine<'a>],
-    name: Name,
-) -> impl Iterator<Item = &'l HeaderLine<'a>> {
-    lines.iter().filter(move |line| name.is_written(line.name))
 }
 
 /// Via stands at least once, From, To, Call-ID and CSeq exactly once.

@@ -3,7 +3,7 @@
 
 use crate::frames_in::{bytes_of_digits, high_first, MOST_DIGITS};
 use crate::packages;
-use crate::table::{BODY_SIZE, CLOCK_LIMIT};
+use crate::record::{BODY_SIZE, CLOCK_LIMIT};
 
 /// The bytes of a line that begins a life, and of one that reads state.
 const BEGIN_BYTES: usize = 9;

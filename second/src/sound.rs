@@ -6,7 +6,7 @@
 use std::cell::Cell;
 
 use crate::packages;
-use crate::table::*;
+use crate::record::*;
 use crate::tags::number_of;
 use crate::text::are_visible;
 
@@ -157,10 +157,11 @@ mod tests {
 
     /// Two addresses; the first has two publications, the second none.
     fn sound_table() -> Vec<Record> {
-        let mut records = vec![Record::ZERO; 3];
-        let mut store = vec![0; 3 * PART_SIZE];
-        add(&mut records, &mut store, 5, 10, b"ann");
-        add(&mut records, &mut store, 6, 0, b"bo");
+        let mut records = vec![
+            Record::added(5, 10, b"ann"),
+            Record::added(6, 0, b"bo"),
+            Record::ZERO,
+        ];
         records[0].latest = 1000;
         for (k, n) in [(2, 9), (5, 10)] {
             records[0].take_slot(

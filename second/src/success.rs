@@ -1,7 +1,7 @@
 //! What a success does to its record and to that record's part of the store.
 
+use crate::record::{Record, Slot, BODY_SIZE};
 use crate::refusals::Accepted;
-use crate::table::{Record, Slot, BODY_SIZE};
 use crate::tags::tag_of;
 
 #[derive(Clone, Copy, Debug, PartialEq, Eq)]

@@ -1,5 +1,5 @@
 //! Byte classes and the small readers that the other files share:
-//! blanks, tokens, numbers and comparison in either case.
+//! blanks, tokens, lines, numbers and comparison in either case.
 
 pub const TOKEN: u8 = 1;
 pub const DIGIT: u8 = 2;
@@ -67,6 +67,12 @@ pub fn is_token(bytes: &[u8]) -> bool {
 /// Bytes 33 to 126: those of a Request-URI and of an address.
 pub fn are_visible(bytes: &[u8]) -> bool {
     bytes.iter().all(|&byte| (33..=126).contains(&byte))
+}
+
+/// The bytes before the next CR LF, and those after it.
+pub fn take_line(bytes: &[u8]) -> Option<(&[u8], &[u8])> {
+    let end = bytes.windows(2).position(|pair| pair == b"\r\n")?;
+    Some((&bytes[..end], &bytes[end + 2..]))
 }
 
 pub fn without_outer_blanks(bytes: &[u8]) -> &[u8] {

@@ -1,8 +1,8 @@
 //! Whether a To value has a tag: quotes first, then the angle brackets, then
 //! the parameters one by one.
 
-use crate::request::Unreadable;
 use crate::text::{same_in_either_case, without_outer_blanks};
+use crate::unreadable::Unreadable;
 
 pub fn has_tag(value: &[u8]) -> Result<bool, Unreadable> {
     let outside = outside_quotes(value)?;

@@ -8,8 +8,9 @@ use crate::bench::Bench;
 use crate::listing::{digits_of, listed, print_with, Trouble};
 use crate::read_state::{NotShown, Shown};
 use crate::reading_in::Reading;
+use crate::record::{Record, Slot};
 use crate::results::DONE;
-use crate::table::{part, Record, Slot};
+use crate::table::part;
 use crate::text::{hex, hex_or_dash};
 use crate::turn::{take_turn, Turn};
 

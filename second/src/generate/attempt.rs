@@ -6,8 +6,8 @@ use super::random::Random;
 use super::values;
 use super::world::World;
 use crate::frames_out::request_frame;
+use crate::names::Name;
 use crate::packages;
-use crate::request::Name;
 use crate::text::eight_hex_digits;
 
 pub struct Attempt {

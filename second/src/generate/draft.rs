@@ -2,7 +2,7 @@
 //! each header line is dressed in one of the ways the paper allows.
 
 use super::random::Random;
-use crate::request::Name;
+use crate::names::Name;
 
 pub struct DraftLine {
     /// None for a field that the paper does not read.

@@ -2,15 +2,15 @@
 //! Each is done to a request that would succeed, or to one with other faults.
 
 use super::attempt::Attempt;
+use super::dead_tags::dead_tag;
 use super::draft::{dressed_line, plain_line};
 use super::random::Random;
 use super::values;
 use super::world::World;
+use crate::names::Name;
 use crate::packages;
-use crate::request::{Name, MOST_HEADER_LINES};
-use crate::table::CLOCK_LIMIT;
-use crate::tags::tag_of;
-use crate::text::eight_hex_digits;
+use crate::record::CLOCK_LIMIT;
+use crate::request::MOST_HEADER_LINES;
 
 #[derive(Clone, Copy, Debug, PartialEq, Eq)]
 pub enum Fault {
@@ -300,61 +300,6 @@ fn no_live_publication(attempt: &mut Attempt, world: &World, random: &mut Random
         tag = random.pick(values::NEVER_A_TAG).as_bytes().to_vec();
     }
     attempt.draft.set(Name::SipIfMatch, &tag, random);
-}
-
-/// A tag of the past, of elsewhere, of the future, run out or misspelled.
-/// Empty where there is none of that kind.
-fn dead_tag(attempt: &mut Attempt, r: usize, world: &World, random: &mut Random) -> Vec<u8> {
-    let record = world.record(r);
-    let package = attempt.package;
-    let occupied: Vec<_> = record.occupied().map(|(_, slot)| *slot).collect();
-    let found = match random.below(8) {
-        0 => random.pick_any(&given_tags(world, |by| by == r)),
-        1 => random.pick_any(&given_tags(world, |by| by != r)),
-        2 => Some(tag_of(record.start, record.spent.wrapping_add(1))),
-        3 => occupied
-            .iter()
-            .find(|slot| slot.package != package)
-            .map(|slot| slot.tag),
-        4 => random.pick_any(&occupied).map(|slot| {
-            attempt.clock = (slot.end + random.below(2)).clamp(record.latest, CLOCK_LIMIT);
-            slot.tag
-        }),
-        _ => return misspelled_tag(attempt, r, world, random),
-    };
-    found.map_or(Vec::new(), |tag| eight_hex_digits(tag).to_vec())
-}
-
-/// A tag that would be the right one, but for its spelling.
-fn misspelled_tag(attempt: &Attempt, r: usize, world: &World, random: &mut Random) -> Vec<u8> {
-    let live = world.record(r).live(attempt.clock);
-    let right: Vec<u32> = live
-        .filter(|(_, slot)| slot.package == attempt.package)
-        .map(|(_, slot)| slot.tag)
-        .collect();
-    let tag = random.pick_any(&right);
-    tag.map_or(Vec::new(), |tag| misspelled(tag, random))
-}
-
-fn given_tags(world: &World, by: impl Fn(usize) -> bool) -> Vec<u32> {
-    let given = world.given.iter().filter(|(r, _)| by(*r));
-    given.map(|&(_, tag)| tag).collect()
-}
-
-fn misspelled(tag: u32, random: &mut Random) -> Vec<u8> {
-    let mut text = eight_hex_digits(tag).to_vec();
-    match random.below(6) {
-        0 | 1 => text.make_ascii_uppercase(),
-        2 => {
-            text.pop();
-        }
-        3 => {
-            text.remove(0);
-        }
-        4 => text.insert(0, b'0'),
-        _ => text.push(b'0'),
-    }
-    text
 }
 
 fn too_brief(attempt: &mut Attempt, random: &mut Random) {

@@ -9,8 +9,8 @@ use super::mutations::{mutate_lines, scrap};
 use super::random::Random;
 use super::special;
 use super::world::World;
+use crate::record::Record;
 use crate::request::MOST_HEADER_LINES;
-use crate::table::Record;
 
 /// A clock and a request. The records must be sound.
 pub fn request_for(records: &[Record], random: &mut Random) -> (u64, Vec<u8>) {

@@ -9,7 +9,8 @@ use super::world::World;
 use crate::frames_in::MOST_DIGITS;
 use crate::frames_out::{add_frame, frame_line, request_frame};
 use crate::handle::LONGEST_REQUEST;
-use crate::request::{Name, MOST_HEADER_LINES};
+use crate::names::Name;
+use crate::request::MOST_HEADER_LINES;
 
 /// A frame's digits in small letters, capitals or both.
 pub fn any_case_line(frame: &[u8], random: &mut Random) -> Vec<u8> {

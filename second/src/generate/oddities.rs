@@ -3,7 +3,7 @@
 
 use super::draft::Draft;
 use super::random::Random;
-use crate::request::Name;
+use crate::names::Name;
 
 const TO_PIECES: &[&str] = &[
     "\"", "\"", "\\", "<", ">", "<ann>", ";", ";", "=", "tag", "TAG", "tag=1", ";tag=", ";Tag =",

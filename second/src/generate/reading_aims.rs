@@ -2,11 +2,11 @@
 //! what is wanted or is refused for its clock.
 
 use super::random::Random;
-use super::readings::Want;
+use super::reading_wants::Want;
 use super::world::{World, LATE};
 use crate::packages;
 use crate::read_state::shown_slot;
-use crate::table::{Record, Slot, CLOCK_LIMIT};
+use crate::record::{Record, Slot, CLOCK_LIMIT};
 use crate::tags::number_of;
 
 /// Record, package and clock.

@@ -6,63 +6,13 @@ use super::lines::mutate;
 use super::random::Random;
 use super::reading_aims::{aim, none_live};
 use super::reading_names::*;
+use super::reading_wants::Want;
 use super::world::World;
 use crate::frames_in::{LEAST_BYTES, MOST_DIGITS};
 use crate::frames_out::reading_frame;
 use crate::packages;
 use crate::reading_in::{Lack, Reading};
-use crate::table::CLOCK_LIMIT;
-
-#[derive(Clone, Copy, Debug, PartialEq, Eq)]
-pub enum Want {
-    BeforeEnd,
-    AtEnd,
-    PastEnd,
-    NewestInLowerSlot,
-    OtherRefreshed,
-    NewestRunOut,
-    Live,
-    NoneLive,
-    OtherPackageLive,
-    AtLimit,
-    JustAboveLimit,
-    HugeClock,
-    BelowLatest,
-    AddressInOtherCase,
-    AddressWithZeroBehind,
-    PackageInOtherCase,
-    PackageWithMoreBehind,
-    NotKnown,
-    Lacking(Lack),
-    Odd,
-}
-
-pub const ALL: [Want; 24] = [
-    Want::BeforeEnd,
-    Want::AtEnd,
-    Want::PastEnd,
-    Want::NewestInLowerSlot,
-    Want::OtherRefreshed,
-    Want::NewestRunOut,
-    Want::Live,
-    Want::NoneLive,
-    Want::OtherPackageLive,
-    Want::AtLimit,
-    Want::JustAboveLimit,
-    Want::HugeClock,
-    Want::BelowLatest,
-    Want::BelowLatest,
-    Want::AddressInOtherCase,
-    Want::AddressWithZeroBehind,
-    Want::PackageInOtherCase,
-    Want::PackageWithMoreBehind,
-    Want::NotKnown,
-    Want::Lacking(Lack::AddressLength),
-    Want::Lacking(Lack::Address),
-    Want::Lacking(Lack::PackageLength),
-    Want::Lacking(Lack::Package),
-    Want::Odd,
-];
+use crate::record::CLOCK_LIMIT;
 
 pub fn frame(want: Want, world: &World, random: &mut Random) -> Vec<u8> {
     match want {

@@ -12,8 +12,9 @@ use super::random::Random;
 use super::world::World;
 use crate::frames_out::frame_line;
 use crate::handle::LONGEST_REQUEST;
+use crate::names::Name;
 use crate::reads::MOST_DIGITS;
-use crate::request::{Name, MOST_HEADER_LINES};
+use crate::request::MOST_HEADER_LINES;
 use crate::text::eight_hex_digits;
 
 #[derive(Clone, Copy)]

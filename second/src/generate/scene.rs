@@ -3,8 +3,8 @@
 
 use super::random::Random;
 use crate::life::{Happening, Life, Lives};
+use crate::record::{Record, Slot};
 use crate::script_in::read_script_line;
-use crate::table::{Record, Slot};
 
 static NO_RECORD: Record = Record::ZERO;
 

@@ -7,8 +7,8 @@ use super::steps::{bytes_of, publication, Step};
 use crate::frames_in::MOST_DIGITS;
 use crate::frames_out::frame_line;
 use crate::packages;
+use crate::record::{BODY_SIZE, CLOCK_LIMIT};
 use crate::script_out::{begin_bytes, publication_bytes};
-use crate::table::{BODY_SIZE, CLOCK_LIMIT};
 
 /// A line that is not so many digits, or begins with another byte.
 pub fn bad_line(scene: &Scene, random: &mut Random) -> Vec<u8> {

@@ -6,7 +6,7 @@ use super::faults;
 use super::random::Random;
 use super::world::{World, CROWD, FULL, LATE};
 use crate::packages;
-use crate::table::{CLOCK_LIMIT, SLOTS};
+use crate::record::{CLOCK_LIMIT, SLOTS};
 
 /// Removal, with a body now and then.
 pub fn remove(world: &World, random: &mut Random) -> Attempt {

@@ -6,9 +6,9 @@ use super::scene::Scene;
 use super::values;
 use super::world::{clock_for, live_clock};
 use crate::packages;
+use crate::record::{Slot, CLOCK_LIMIT};
 use crate::script_in::Publication;
 use crate::script_out::{publication_bytes, show_bytes};
-use crate::table::{Slot, CLOCK_LIMIT};
 use crate::tags::tag_of;
 use crate::text::eight_hex_digits;
 

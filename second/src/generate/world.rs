@@ -5,7 +5,8 @@ use super::random::Random;
 use crate::bench::{Bench, Outcome};
 use crate::message::Answer;
 use crate::read_state::shown_slot;
-use crate::table::{record_of, Record, CLOCK_LIMIT, SLOTS};
+use crate::record::{Record, CLOCK_LIMIT, SLOTS};
+use crate::table::record_of;
 use crate::turn::{take_turn, Turn};
 
 /// The address that is kept full of publications.

@@ -2,9 +2,9 @@
 //! of the reads listing.
 
 use second::generate::requests::print_requests;
+use second::names::Name;
 use second::read_counts::{outcomes, print_read_counts, read_counts, SAID};
 use second::reads::{print_reads, reading_of, request_bytes, Reading, Said};
-use second::request::Name;
 use std::collections::HashSet;
 
 fn requests(seed: u64, lines: u64) -> Vec<u8> {
