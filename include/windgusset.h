@@ -7,9 +7,9 @@ static struct windgusset_record records[1];
 static uint8_t store[WINDGUSSET_STORE_BYTES], answer[WINDGUSSET_ANSWER_BYTES];
 static const uint8_t request[] = "PUBLISH ann SIP/2.0\r\nv: SIP/2.0/UDP pua\r\nf: <ann>;tag=1\r\nt: <ann>\r\ni: 1\r\nCSeq: 1 PUBLISH\r\nEvent: presence\r\nExpires: 3600\r\nc: application/pidf+xml\r\n\r\nx";
 int main(void) {
-    windgusset_open(records, 1, store, sizeof store);
-    windgusset_add(records, 1, store, sizeof store, (const uint8_t *)"ann", 3, 0, 0);
-    fwrite(answer, 1, windgusset_handle(records, 1, store, sizeof store, 100, 1, request, sizeof request - 1, answer, sizeof answer).length, stdout);
+    if (windgusset_open(records, 1, store, sizeof store) || windgusset_add(records, 1, store, sizeof store, (const uint8_t *)"ann", 3, 0, 0)) return 1;
+    struct windgusset_handled handled = windgusset_handle(records, 1, store, sizeof store, 100, 1, request, sizeof request - 1, answer, sizeof answer);
+    return handled.result != WINDGUSSET_DONE || fwrite(answer, 1, handled.length, stdout) != handled.length;
 }
 
  * The caller lends all memory, and lends it for the call: nothing is kept. No memory is allocated and no global is written, so calls on
