@@ -1,4 +1,5 @@
 -- What a frame leaves on the desk.
+-- Rules 11.2 to 11.4 of docs/RULES.md.
 use mathlib.Core.Path.{_≡_}
 use mathlib.Core.List.{List}
 use Prim.Native.Nat.{ℕ}

@@ -1,4 +1,5 @@
 -- How the bytes of the input are read: one after the other, whatever the chunks in which they come.
+-- Rules 11.1, 11.5 of docs/RULES.md.
 use mathlib.Core.Bool.{false}
 use mathlib.Core.List.{List, [], _∷_, _++_}
 use Prim.Native.Nat.{ℕ, _+_, _-_}

@@ -1,4 +1,5 @@
 -- What is said of a line where more is asked for: of the witness's own frame what it reads, of another what is shown of it already.
+-- Rule 11.9 of docs/RULES.md.
 use Prim.Native.Nat.{ℕ}
 use mathlib.Core.Bool.{Bool}
 use mathlib.Core.List.{List}

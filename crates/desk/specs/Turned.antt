@@ -1,4 +1,5 @@
 -- A line's turn: what is printed for it, and what it leaves on the desk.
+-- Rules 11.6, 11.9 of docs/RULES.md.
 use mathlib.Core.Path.{_≡_}
 use mathlib.Core.Bool.{Bool}
 use mathlib.Core.List.{List, _++_}

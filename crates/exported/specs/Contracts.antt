@@ -1,4 +1,5 @@
 -- What the exported functions promise: the definitions of the public ones, with what comes back in numbers.
+-- Rules 1.6, 10.7 of docs/RULES.md.
 use mathlib.Core.Path.{_≡_}
 use mathlib.Core.List.{List}
 use Prim.Native.Nat.{ℕ}

@@ -1,4 +1,5 @@
 -- What a call comes back with, in the paper's numbers: one definition for each number, a line for each case.
+-- Rule 1.6 of docs/RULES.md.
 use Prim.Native.Nat.{ℕ}
 use Rattle.response.specs.Outcomes.{resultOf, statusOf}
 use Rattle.response.specs.declared.Field.{Field}

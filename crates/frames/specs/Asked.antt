@@ -1,4 +1,5 @@
 -- What is asked for, as the frame that the listing's definitions have.
+-- Rules 11.2, 11.3, 11.5 of docs/RULES.md.
 use Prim.Native.Nat.{ℕ}
 use mathlib.Core.List.{List}
 use Rattle.listing.specs.Frames.{Frame, adds, handles, bad}

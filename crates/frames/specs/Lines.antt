@@ -1,4 +1,5 @@
 -- The bytes of a line.
+-- Rule 11.1 of docs/RULES.md.
 use Prim.Native.Nat.{ℕ}
 use mathlib.Core.Bool.{Bool}
 use mathlib.Core.List.{List, []}

@@ -1,4 +1,5 @@
 -- The text of a line of the listing, from what came of an input line.
+-- Rules 11.6, 11.9 of docs/RULES.md.
 use Prim.Native.Nat.{ℕ}
 use mathlib.Core.List.{List, _++_}
 use Rattle.laws.specs.Bytes.{bytes}

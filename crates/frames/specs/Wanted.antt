@@ -1,4 +1,5 @@
 -- What the witness's own frame wants to be read, by positions in it.
+-- Rule 11.9 of docs/RULES.md.
 use Prim.Native.Nat.{ℕ}
 use mathlib.Core.List.{List}
 use Rattle.laws.specs.Choose.{pick}

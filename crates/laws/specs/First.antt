@@ -1,4 +1,5 @@
 -- The first of a list of tests that applies.
+-- Rule 7.20 of docs/RULES.md.
 use mathlib.Core.Bool.{Bool}
 use mathlib.Core.List.{List, [], _∷_}
 use Prim.Native.Nat.{ℕ, suc}

@@ -1,5 +1,6 @@
 -- What is looked at in each lent record before one of them is taken out: whether it is in use, whether it is sound by itself, and the
 -- 64 bytes of its address.
+-- Rule 4.16 of docs/RULES.md.
 use Prim.Native.Nat.{ℕ}
 use mathlib.Core.Bool.{Bool, _&&_, not}
 use mathlib.Core.List.{List, map}

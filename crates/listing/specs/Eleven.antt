@@ -1,4 +1,5 @@
 -- The paper's eleven lines: their input as text, and the listing.
+-- Rule 11.7 of docs/RULES.md.
 use Prim.Native.Nat.{ℕ}
 use mathlib.Core.List.{List, [], _∷_}
 use Rattle.laws.specs.Bytes.{bytes}

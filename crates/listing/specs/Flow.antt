@@ -1,4 +1,5 @@
 -- RFC 3903 section 15: its PUBLISH requests M5, M9 and M11, with our tags, and the responses M6, M10 and M12 as this part writes them.
+-- Rule 11.8 of docs/RULES.md.
 use Prim.Native.Nat.{ℕ}
 use Prim.Native.String.{String}
 use mathlib.Core.List.{List, [], _∷_}

@@ -1,4 +1,5 @@
 -- The bench's input: lines of hexadecimal in either case, one frame a line.
+-- Rules 11.1 to 11.4 of docs/RULES.md.
 use Prim.Native.Nat.{ℕ, _+_, _*_, _%_}
 use mathlib.Core.Bool.{Bool, true, false, _&&_, not}
 use mathlib.Core.List.{List, [], _∷_}

@@ -1,4 +1,5 @@
 -- What the bench and the worked examples lend: zeroed records with their store, and a zeroed answer buffer.
+-- Rule 11.5 of docs/RULES.md.
 use Prim.Native.Nat.{ℕ, _*_}
 use mathlib.Core.List.{List}
 use lib.ListN.{replicate}

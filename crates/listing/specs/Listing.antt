@@ -1,4 +1,5 @@
 -- The bench's output: "publish bench", then for each line its number and what came of it.
+-- Rules 11.5, 11.6 of docs/RULES.md.
 use Prim.Native.Nat.{ℕ, _+_}
 use mathlib.Core.List.{List, [], _∷_, _++_}
 use Rattle.laws.specs.Bytes.{bytes}

@@ -1,5 +1,6 @@
 -- The witness's own frame, which reads state: 02, clock (8 bytes, high first), length of the address (1), address, length of the package (1),
 -- package, default body. And what the witness prints for it in the place of the listing's line.
+-- Rule 11.9 of docs/RULES.md.
 use Prim.Native.Nat.{ℕ, _+_, _-_}
 use mathlib.Core.Bool.{Bool, _&&_}
 use mathlib.Core.List.{List, _++_}

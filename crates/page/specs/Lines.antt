@@ -1,4 +1,5 @@
 -- The pieces of lines in a chunk of bytes.
+-- Rule 11.1 of docs/RULES.md.
 use Prim.Native.Nat.{ℕ, _+_}
 use mathlib.Core.Bool.{Bool, not}
 use mathlib.Core.List.{List}

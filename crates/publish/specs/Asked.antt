@@ -1,4 +1,5 @@
 -- What a request asks of a record at a clock, as it is worked out once.
+-- Rules 7.22, 7.23 of docs/RULES.md.
 use Prim.Native.Nat.{ℕ}
 use mathlib.Core.List.{List}
 use Rattle.laws.specs.Choose.{pick}

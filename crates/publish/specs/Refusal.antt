@@ -1,4 +1,5 @@
 -- What a list of refusals comes to, where "none applies" is a case of its own.
+-- Rule 7.20 of docs/RULES.md.
 use mathlib.Core.Bool.{Bool, true, false}
 use mathlib.Core.List.{List, [], _∷_}
 use Rattle.laws.specs.Choose.{pick}

@@ -1,4 +1,5 @@
 -- The refusals: one list of tests in the paper's order, and the first that applies.
+-- Rules 2.1, 2.5, 2.7, 2.8, 7.1 to 7.20, 7.22, 7.23, 7.25 to 7.27 of docs/RULES.md.
 use Prim.Native.Nat.{ℕ, _-_, _*_}
 use mathlib.Core.Bool.{Bool, _&&_, _||_, not}
 use mathlib.Core.List.{List, [], _∷_, _++_}

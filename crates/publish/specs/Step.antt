@@ -1,4 +1,5 @@
 -- One request at one record and its part of the store: what comes back, the message due, and record and part after it.
+-- Rules 7.21, 7.24 of docs/RULES.md.
 use Prim.Native.Nat.{ℕ}
 use mathlib.Core.Bool.{Bool}
 use mathlib.Core.List.{List, []}

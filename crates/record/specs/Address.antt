@@ -1,4 +1,5 @@
 -- Addresses: which are well formed, how a record holds one, and when a text is that address.
+-- Rules 2.3, 4.4, 4.14, 4.15 of docs/RULES.md.
 use Prim.Native.Nat.{ℕ, _-_}
 use mathlib.Core.Bool.{Bool, _&&_, not}
 use mathlib.Core.List.{List, _++_}

@@ -1,4 +1,5 @@
 -- The map of occupied slots as a number: the lowest bit is slot 0.
+-- Rule 4.5 of docs/RULES.md.
 use Prim.Native.Nat.{ℕ, zero, suc, _+_, _-_, _/_, _%_, _^_}
 use mathlib.Core.Bool.{Bool}
 use lib.Dec.{eqb}

@@ -1,4 +1,5 @@
 -- The packages: a fixed table, numbered 0, 1, 2 in its order.
+-- Rules 3.1, 3.2 of docs/RULES.md.
 use Prim.Native.Nat.{ℕ}
 use mathlib.Core.Bool.{Bool}
 use mathlib.Core.List.{List, [], _∷_}

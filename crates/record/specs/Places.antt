@@ -1,4 +1,5 @@
 -- A record's eight places: each slot with whether the map has it occupied.
+-- Rules 4.1, 4.2, 4.5, 4.7, 4.8, 7.13, 7.19, 7.26, 7.27, 10.4 of docs/RULES.md.
 use Prim.Native.Nat.{ℕ, _+_, _*_, _/_, _%_}
 use mathlib.Core.Bool.{Bool, true, false, _&&_, not}
 use mathlib.Core.List.{List, [], _∷_, map}

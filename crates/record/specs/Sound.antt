@@ -1,4 +1,5 @@
 -- Soundness of one record and of all lent ones.
+-- Rules 2.6, 4.12 to 4.25 of docs/RULES.md.
 use Prim.Native.Nat.{ℕ, _+_}
 use mathlib.Core.Bool.{Bool, _&&_, _||_, not}
 use mathlib.Core.List.{List}

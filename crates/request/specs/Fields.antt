@@ -1,4 +1,5 @@
 -- What the fields of a readable request say, as the rows of the refusals ask.
+-- Rules 6.19 to 6.26, 7.8, 7.12 of docs/RULES.md.
 use Prim.Native.Nat.{ℕ, _+_, _-_}
 use mathlib.Core.Bool.{Bool, _&&_, _||_, not}
 use mathlib.Core.List.{List}

@@ -1,4 +1,5 @@
 -- The first line of a request.
+-- Rules 6.3, 6.4 of docs/RULES.md.
 use Prim.Native.Nat.{ℕ, _+_}
 use mathlib.Core.Bool.{Bool, _&&_}
 use mathlib.Core.List.{List}

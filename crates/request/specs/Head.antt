@@ -1,4 +1,5 @@
 -- What the first line and the header lines of a request say, and when the request is readable.
+-- Rules 2.2, 6.8, 6.10, 6.11, 6.17 of docs/RULES.md.
 use Prim.Native.Nat.{ℕ, _+_}
 use mathlib.Core.Bool.{Bool, true, false, _&&_, not}
 use mathlib.Core.List.{List, [], _∷_, map}

@@ -1,4 +1,5 @@
 -- The header lines of a request and the empty line that ends them.
+-- Rules 6.5 to 6.8, 9.3 of docs/RULES.md.
 use Prim.Native.Nat.{ℕ, zero, suc, _+_}
 use mathlib.Core.Bool.{_&&_}
 use mathlib.Core.List.{List, [], _∷_, _++_}

@@ -1,4 +1,5 @@
 -- The names that we read, with their compact forms.
+-- Rules 1.4, 6.9 of docs/RULES.md.
 use Prim.Native.Nat.{ℕ}
 use mathlib.Core.List.{List, [], _∷_}
 use Rattle.laws.specs.Bytes.{bytes}

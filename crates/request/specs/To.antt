@@ -1,4 +1,5 @@
 -- Whether a To value has a tag.
+-- Rules 6.13 to 6.16 of docs/RULES.md.
 use Prim.Native.Nat.{ℕ, _+_}
 use mathlib.Core.Bool.{Bool, true, false, _&&_, _||_, not}
 use mathlib.Core.List.{List, [], _∷_}

@@ -1,4 +1,5 @@
 -- The message, byte by byte.
+-- Rules 9.1 to 9.6 of docs/RULES.md.
 use Prim.Native.Nat.{ℕ}
 use mathlib.Core.List.{List, [], _∷_, _++_}
 use Rattle.laws.specs.Bytes.{bytes}

@@ -1,4 +1,5 @@
 -- The paper's numbers for what comes back: result, status, phrase and field.
+-- Rules 1.6, 9.2, 9.5, 9.6 of docs/RULES.md.
 use Prim.Native.Nat.{ℕ}
 use mathlib.Core.Bool.{Bool, true, false}
 use mathlib.Core.List.{List, [], _∷_, _++_}

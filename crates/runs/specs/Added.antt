@@ -1,4 +1,5 @@
 -- Which addresses a run adds, and how: told by the number of records and the entries, by no table.
+-- Rules 5.2, 5.3 of docs/RULES.md.
 use Prim.Native.Nat.{ℕ}
 use mathlib.Core.Bool.{Bool, _&&_, not}
 use mathlib.Core.List.{List, [], _∷_, _++_}

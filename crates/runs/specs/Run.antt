@@ -1,4 +1,5 @@
 -- Any run: what a caller lends, adds and sends. Only sizes are asked of it, and nothing of what is lent.
+-- Rule 5.5 of docs/RULES.md.
 use mathlib.Core.Path.{_≡_}
 use mathlib.Core.Bool.{Bool, true, false, _&&_}
 use mathlib.Core.List.{List, [], _∷_, map}

@@ -1,4 +1,5 @@
 -- Tags over a history: which were given, how long they last and which were presented. Read off inputs and answers, by no table.
+-- Rules 4.11, 7.26 of docs/RULES.md.
 use Prim.Native.Nat.{ℕ, _+_, _<_}
 use mathlib.Core.Path.{_≡_}
 use mathlib.Core.Bool.{Bool, true, false, _&&_, _||_, not}

@@ -1,5 +1,6 @@
 -- Reading state as functions by value hold the table: what is found of the address, its record, how many were lent, and of the store
 -- its length.
+-- Rules 10.2, 10.4 to 10.6 of docs/RULES.md.
 use mathlib.Core.Path.{_≡_}
 use mathlib.Core.Bool.{not}
 use mathlib.Core.List.{List, _∷_}

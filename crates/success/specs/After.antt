@@ -1,4 +1,5 @@
 -- What a success does to the record of its address, and to its 4,096 bytes of the store.
+-- Rules 4.9, 8.1 to 8.5, 8.7 of docs/RULES.md.
 use Prim.Native.Nat.{ℕ, _+_}
 use mathlib.Core.Bool.{Bool, true, _&&_}
 use mathlib.Core.List.{List, map}

@@ -1,4 +1,5 @@
 -- Where bodies lie in the store, and a record's part of it with everything outside live bodies zero.
+-- Rules 4.6, 8.6 of docs/RULES.md.
 use Prim.Native.Nat.{ℕ, _+_, _*_}
 use mathlib.Core.Bool.{Bool}
 use mathlib.Core.List.{List, [], _∷_, _++_}

@@ -1,4 +1,5 @@
 -- Adding an address to a table.
+-- Rules 5.2 to 5.4, 7.24 of docs/RULES.md.
 use Prim.Native.Nat.{ℕ}
 use mathlib.Core.Bool.{Bool, true, not}
 use mathlib.Core.List.{List, [], _∷_}

@@ -1,4 +1,5 @@
 -- Handling one request.
+-- Rules 1.1, 7.21, 7.24, 8.8, 9.7 of docs/RULES.md.
 use Prim.Native.Nat.{ℕ}
 use mathlib.Core.Bool.{Bool}
 use mathlib.Core.List.{List, _++_}

@@ -1,4 +1,5 @@
 -- What the type of a record says of each of its values, as one test that every call keeps.
+-- Rules 2.9, 4.1 of docs/RULES.md.
 use mathlib.Core.Bool.{Bool, _&&_}
 use lib.Dec.{ltb}
 use Rattle.record.specs.Places.{isWhole}

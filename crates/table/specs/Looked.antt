@@ -1,6 +1,7 @@
 -- The table as covered functions hold it: the looks at the first sixteen records, how many were lent, the one record that a call is
 -- for, and the store. What is settled there is what `opened`, `added` and `done` settle of the lent table, once the record kept is put
 -- at its index (proofs/LookedLaws).
+-- Rules 5.1 to 5.3, 7.1 to 7.5, 7.20 of docs/RULES.md.
 use Prim.Native.Nat.{ℕ, zero, suc}
 use mathlib.Core.Bool.{Bool, not}
 use mathlib.Core.List.{List, [], _∷_, _++_}

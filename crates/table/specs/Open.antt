@@ -1,4 +1,5 @@
 -- Opening a table.
+-- Rules 5.1, 7.24 of docs/RULES.md.
 use Prim.Native.Nat.{ℕ}
 use mathlib.Core.List.{List, [], _∷_}
 use lib.ListN.{length, replicate}

@@ -1,5 +1,6 @@
 -- Reading state. Of the store only its size is asked, so whether the sizes are bad is said beside the table: the code holds the
 -- records that were lent, and of the store its length.
+-- Rules 10.1 to 10.7 of docs/RULES.md.
 use Prim.Native.Nat.{ℕ, _+_}
 use mathlib.Core.Bool.{Bool, _||_, not}
 use mathlib.Core.List.{List, [], _∷_}

@@ -1,5 +1,6 @@
 -- A run: a table is lent to `open`, entries are given to `add`, then inputs are sent to `handle`, each with an answer buffer of its
 -- own. What it gives: each input with its answer, and the table at the end.
+-- Rule 5.5 of docs/RULES.md.
 use Prim.Native.Nat.{ℕ}
 use mathlib.Core.List.{List, [], _∷_}
 use lib.ListN.{take}

@@ -1,4 +1,5 @@
 -- The lent table: its records and its store, and the record that is in use for an address.
+-- Rules 1.5, 2.8, 4.3, 7.9, 8.8 of docs/RULES.md.
 use Prim.Native.Nat.{ℕ}
 use mathlib.Core.Bool.{Bool}
 use mathlib.Core.List.{List}

@@ -1,4 +1,5 @@
 -- "A tag that some n from 1 to spent gives": as the paper says it, and in the form that decides it.
+-- Rule 4.22 of docs/RULES.md.
 use mathlib.Core.Path.{_≡_}
 use mathlib.Core.Bool.{Bool, _&&_}
 use Prim.Native.Nat.{ℕ, _+_, _-_, _*_, _%_, _≤_}

@@ -1,4 +1,5 @@
 -- A tag as it is written, and the comparison of a presented token with it.
+-- Rules 4.10, 6.26 of docs/RULES.md.
 use Prim.Native.Nat.{ℕ}
 use mathlib.Core.Bool.{Bool}
 use mathlib.Core.List.{List}

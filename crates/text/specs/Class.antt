@@ -1,4 +1,5 @@
 -- The classes of bytes, by their rule.
+-- Rules 1.7, 2.3, 6.1 to 6.3, 6.24, 6.25 of docs/RULES.md.
 use Prim.Native.Nat.{ℕ}
 use mathlib.Core.List.{List}
 use mathlib.Core.Bool.{Bool, _&&_, _||_, not}

@@ -1,4 +1,5 @@
 -- The digits that are written for a number, and the value of a hex digit that is read.
+-- Rules 4.10, 9.4, 9.6, 11.1 of docs/RULES.md.
 use Prim.Native.Nat.{ℕ, zero, suc, _+_, _-_, _*_, _/_, _%_}
 use mathlib.Core.List.{List, [], _∷_, _++_}
 use lib.Dec.{ltb}

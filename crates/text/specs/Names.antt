@@ -1,4 +1,5 @@
 -- Texts compared in either case, and names with their compact forms.
+-- Rules 1.7, 6.9 of docs/RULES.md.
 use Prim.Native.Nat.{ℕ, _+_}
 use mathlib.Core.Bool.{Bool}
 use mathlib.Core.List.{List, [], _∷_}

@@ -1,4 +1,5 @@
 -- Decimal numbers with a bound. The value is bounded, not the count of digits.
+-- Rule 6.18 of docs/RULES.md.
 use Prim.Native.Nat.{ℕ, _+_, _-_, _*_}
 use mathlib.Core.Bool.{Bool, true, false, _&&_, not}
 use mathlib.Core.List.{List, [], _∷_}

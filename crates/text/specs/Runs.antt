@@ -1,4 +1,5 @@
 -- Runs of bytes of one kind, and the blanks round a text.
+-- Rules 6.1, 6.6 of docs/RULES.md.
 use Prim.Native.Nat.{ℕ, suc, _+_}
 use mathlib.Core.Bool.{Bool, _&&_, not}
 use mathlib.Core.List.{List, [], _∷_}

@@ -1,4 +1,5 @@
 -- What the public functions promise: each leaves what its definition settles of what was lent, as one equation.
+-- Rules 1.2, 1.5, 10.7 of docs/RULES.md.
 use mathlib.Core.Path.{_≡_}
 use mathlib.Core.List.{List}
 use Prim.Native.Nat.{ℕ}
