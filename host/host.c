@@ -66,8 +66,7 @@ static int64_t milliseconds(clockid_t id) {
 static uint64_t clock_now(void) {
     static int64_t latest, before;
     int64_t steady = milliseconds(CLOCK_MONOTONIC), wall = milliseconds(CLOCK_REALTIME);
-    latest = before == 0 ? (int64_t)kept_clock * 1000 : latest + (steady - before);
-    before = steady;
+    latest = before == 0 ? (int64_t)kept_clock * 1000 : latest + (steady - before), before = steady;
     if (latest < wall) latest = wall;
     return (uint64_t)latest / 1000;
 }
@@ -119,8 +118,7 @@ static void write_ahead(uint64_t clock) {
     for (size_t i = 0; i < served_count; i++) {
         uint32_t spent = records[i].spent;
         if (spent < served[i]->spent || spent == UINT32_MAX) continue;
-        served[i]->spent = spent < UINT32_MAX - BLOCK ? spent + BLOCK : UINT32_MAX;
-        raised = 1;
+        served[i]->spent = spent < UINT32_MAX - BLOCK ? spent + BLOCK : UINT32_MAX, raised = 1;
     }
     if (raised) write_state();
 }
@@ -168,11 +166,14 @@ static int listen_on(const char *ip, const char *port) {
 /* The bench's form: number, status, tag or -, seconds or -; or number, none and the result. */
 static void log_line(const struct windgusset_handled *h) {
     static uint64_t nth;
+    struct pollfd log = {.fd = STDOUT_FILENO, .events = POLLOUT};
     char tag[16] = "-", seconds[32] = "-";
+    nth++;
+    if (poll(&log, 1, 0) == 0) return; /* a log that is full and not read does not stop the host */
     if (h->status == 200) snprintf(tag, sizeof tag, "%08" PRIx32, h->tag);
     if (h->status == 200 || h->status == 423 || h->status == 503) snprintf(seconds, sizeof seconds, "%" PRIu64, h->seconds);
-    if (h->result == WINDGUSSET_DONE) printf("%" PRIu64 " %d %s %s\n", ++nth, h->status, tag, seconds);
-    else printf("%" PRIu64 " none %d\n", ++nth, h->result);
+    if (h->result == WINDGUSSET_DONE) printf("%" PRIu64 " %d %s %s\n", nth, h->status, tag, seconds);
+    else printf("%" PRIu64 " none %d\n", nth, h->result);
 }
 
 /* The answer that was given to the same datagram of the same sender, as long as it counts. */
@@ -225,8 +226,7 @@ static void take_state(char *path) {
 
 int main(int argc, char **argv) {
     if (argc < 5) errx(2, "usage: host IP PORT STATE ADDRESS.. (or -f FILE, with an address a line)");
-    setvbuf(stdout, NULL, _IOLBF, 0);
-    signal(SIGPIPE, SIG_IGN);
+    setvbuf(stdout, NULL, _IOLBF, 0), signal(SIGPIPE, SIG_IGN);
     take_state(argv[3]);
     windgusset_open(records, SERVED, store, sizeof store);
     for (int i = 4; i < argc; i++) {
