@@ -228,7 +228,7 @@ int main(int argc, char **argv) {
     if (argc < 5) errx(2, "usage: host IP PORT STATE ADDRESS.. (or -f FILE, with an address a line)");
     setvbuf(stdout, NULL, _IOLBF, 0), signal(SIGPIPE, SIG_IGN);
     take_state(argv[3]);
-    windgusset_open(records, SERVED, store, sizeof store);
+    if (windgusset_open(records, SERVED, store, sizeof store) != WINDGUSSET_DONE) errx(1, "the table was not opened");
     for (int i = 4; i < argc; i++) {
         if (strcmp(argv[i], "-f") != 0) serve_address(argv[i]);
         else if (++i < argc) serve_file(argv[i]);
