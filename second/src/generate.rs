@@ -19,6 +19,7 @@ mod scene;
 mod script_faults;
 pub mod scripts;
 mod special;
+mod spelling;
 mod steps;
 mod values;
 mod world;

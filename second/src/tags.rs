@@ -1,8 +1,6 @@
 //! The tags of an address: each success number gives one, a fixed odd step
 //! from the last, so that none comes twice.
 
-use crate::text::eight_hex_digits;
-
 pub const STEP: u32 = 2654435769;
 
 /// The tag of success number n: start plus n times the step, kept to 32 bits.
@@ -25,9 +23,18 @@ fn inverse_of_step() -> u32 {
     inverse
 }
 
-/// Whether a presented tag is that one, compared byte by byte.
+/// Whether a presented token is that tag: eight hex digits that make its
+/// number, in either case, as tokens are compared (RFC 3261 section 7.3.1).
 pub fn presents(presented: &[u8], tag: u32) -> bool {
-    presented == eight_hex_digits(tag)
+    presented.len() == 8 && number_in_hex(presented) == Some(tag)
+}
+
+/// The number that at most eight hex digits make; none where one byte is none.
+fn number_in_hex(digits: &[u8]) -> Option<u32> {
+    digits.iter().try_fold(0, |number, &byte| {
+        let digit = char::from(byte).to_digit(16)?;
+        Some(number << 4 | digit)
+    })
 }
 
 #[cfg(test)]
@@ -60,11 +67,27 @@ mod tests {
     }
 
     #[test]
-    fn presented_tags_are_compared_byte_by_byte() {
-        assert!(presents(b"9e3779b9", 0x9e37_79b9));
+    fn presented_tags_are_compared_in_either_case() {
+        for text in ["9e3779b9", "9E3779B9", "9E3779b9", "9e3779B9"] {
+            assert!(presents(text.as_bytes(), 0x9e37_79b9), "{}", text);
+        }
         assert!(presents(b"00000000", 0));
-        for text in ["9E3779B9", "9e3779b", "09e3779b9", "", "9e3779b90"] {
+        assert!(presents(b"FfFfFfFf", u32::MAX));
+        for text in ["9e3779b", "09e3779b9", "", "9e3779b90", "9F3779B9"] {
             assert!(!presents(text.as_bytes(), 0x9e37_79b9), "{}", text);
+        }
+    }
+
+    #[test]
+    fn only_letters_have_another_case() {
+        let right = b"9E3779b9";
+        for place in 0..8 {
+            for byte in 0..=255 {
+                let mut text = *right;
+                text[place] = byte;
+                let same = byte.eq_ignore_ascii_case(&right[place]);
+                assert_eq!(presents(&text, 0x9e37_79b9), same, "{} {}", place, byte);
+            }
         }
     }
 }

@@ -23,12 +23,12 @@ ofAnn =
     ∷ asks 120 "ann" "o:presence\r\nSIP-If-Match:3c6ef372\r\n"
     ∷ asks 159 "ann" "o:presence\r\nSIP-If-Match:9e3779b9\r\nExpires:30\r\n"
     ∷ asks 160 "ann" "o:presence\r\nSIP-If-Match:9e3779b9\r\n"
-    ∷ asks 159 "ann" "o:presence\r\nSIP-If-Match:9E3779B9\r\n"
-    ∷ asks 159 "ann" "o:presence\r\nSIP-If-Match:9e3779b9\r\nExpires:60\r\n"
+    ∷ asks 159 "ann" "o:presence\r\nSIP-If-Match:Ye3779b9\r\n"
+    ∷ asks 159 "ann" "o:presence\r\nSIP-If-Match:9E3779b9\r\nExpires:60\r\n"
     ∷ asks 159 "ann" "o:presence\r\nSIP-If-Match:9e3779b9\r\n"
     ∷ asks 158 "ann" "o:presence\r\nSIP-If-Match:3c6ef372\r\n"
     ∷ asks 160 "ann" "o:weather\r\nSIP-If-Match:3c6ef372\r\n"
-    ∷ asks 218 "ann" "o:presence\r\nSIP-If-Match:3c6ef372\r\nExpires:0\r\n"
+    ∷ asks 218 "ann" "o:presence\r\nSIP-If-Match:3C6EF372\r\nExpires:0\r\n"
     ∷ asks 218 "ann" "o:presence\r\nSIP-If-Match:3c6ef372\r\n"
     ∷ asks 218 "ann" "o:presence\r\nSIP-If-Match:daa66d2b\r\n"
     ∷ []
@@ -95,9 +95,9 @@ annSides =
     ∷ sides true true true
     -- at its end
     ∷ sides true false false
-    -- in capitals
+    -- with 32 added to its first digit, which is no letter
     ∷ sides true false false
-    -- after the refused presentations it still matches, and is refreshed
+    -- after the refused presentations it still matches, in mixed case, and is refreshed
     ∷ sides true true true
     -- the old tag after the refresh
     ∷ sides true false false
@@ -105,7 +105,7 @@ annSides =
     ∷ sides false true true
     -- a package that is not listed: 489, and not tried
     ∷ sides false true false
-    -- the new tag one second before its end: it matches, and is removed
+    -- the new tag one second before its end: it matches, in capitals, and is removed
     ∷ sides true true true
     -- the new tag after the removal
     ∷ sides true false false
@@ -115,8 +115,8 @@ annSides =
 
 -- C4 and C5 at ann. Their wrong twins: without "for that package" C4 is wrong at the tag under another package (1); with "at most" for
 -- "below" at the end (4) and at the tag given with no time (12); without "no later success presented it" after the refresh (7) and after
--- the removal (11); without "there" at ann's second tag before she had it and at her third after its end (5 and 20 of the run), and C5
--- is wrong without "there" too
+-- the removal (11), and so with "presented it as it is written"; without "there" at ann's second tag before she had it and at her third
+-- after its end (5 and 20 of the run), and C5 is wrong without "there" too
 c4-c5 : shownOf (bytes "ann") (exchanges busy)
     ≡ record {
       right = annSides;
@@ -124,6 +124,7 @@ c4-c5 : shownOf (bytes "ann") (exchanges busy)
       any-package = 1 ∷ [];
       to-the-end = 4 ∷ 12 ∷ [];
       though-presented = 7 ∷ 11 ∷ [];
+      presented-as-written = 7 ∷ 11 ∷ [];
       any-address = 5 ∷ 20 ∷ [];
       differ-anywhere = false;
     }

@@ -1,16 +1,18 @@
 -- The tags that an address alone gives, one after the other: their numbers go up, so no two are the same.
-use mathlib.Core.Path.{_≡_, refl, ap}
-use mathlib.Core.Bool.{Bool, true, false, not}
+use mathlib.Core.Path.{_≡_, refl, sym, _∙_, ap}
+use mathlib.Core.Bool.{Bool, true, false, not, true≢false}
 use mathlib.Core.List.{List, [], _∷_, map}
 use Prim.Native.Nat.{ℕ, _+_, _<_, _≤_}
 use native.Mathlib.Omega.{arith}
+use borrow.Author.Tests.{not-true}
 use Rattle.laws.specs.Choose.{pick}
 use Rattle.laws.specs.Lists.{every, those, pairwise, same}
-use Rattle.laws.proofs.Tests.{same-equal, every-cons, pairwise-cons}
+use Rattle.laws.proofs.Tests.{and-both, same-equal, same-self, every-cons, every-follows, pairwise-cons, pairwise-head, pairwise-tail}
+use Rattle.text.specs.Names.{lowered, sameText}
 use Rattle.tag.specs.Tag.{tagOf}
 use Rattle.tag.specs.Written.{tagText}
 use Rattle.tag.proofs.Tag.{tag-below, tags-differ}
-use Rattle.tag.proofs.Written.{tag-text-once}
+use Rattle.tag.proofs.Written.{tag-text-apart}
 use Rattle.success.specs.After.{givenTag, successNumber, recordAfter}
 use Rattle.record.specs.declared.Record.{Record}
 use Rattle.success.specs.declared.Success.{Success}
@@ -24,18 +26,18 @@ use Rattle.runs.specs.Alone.{caseAt, answered, beginning, aloneFrom}
 use Rattle.runs.specs.Tags.{cameBack, succeeded, tagOfOutcome, tagGiven, tagsGiven, allDiffer}
 use Rattle.runs.proofs.Succeeds.{gives}
 
--- one tag is not another, as they are written
+-- one tag is not another, in either case
 abbrev differs : List ℕ → List ℕ → Bool
-differs t u = not (same t u)
+differs t u = not (sameText t u)
 
 -- the tag of a lower number is another
 tags-apart : (start k m : ℕ) → 1 ≤ k → k < m → m ≤ 4294967295 → differs (tagText (tagOf start k)) (tagText (tagOf start m)) ≡ true
-tags-apart start k m h i j = go (same (tagText (tagOf start k)) (tagText (tagOf start m))) refl
+tags-apart start k m h i j = go (sameText (tagText (tagOf start k)) (tagText (tagOf start m))) refl
   where
-    go : (b : Bool) → same (tagText (tagOf start k)) (tagText (tagOf start m)) ≡ b → not b ≡ true
+    go : (b : Bool) → sameText (tagText (tagOf start k)) (tagText (tagOf start m)) ≡ b → not b ≡ true
     go true e =
         absurd (tags-differ start k m h i j
-        (tag-text-once (tagOf start k) (tagOf start m) (tag-below start k) (tag-below start m) (same-equal _ _ e)))
+        (tag-text-apart (tagOf start k) (tagOf start m) (tag-below start k) (tag-below start m) e))
     go false e = refl
 
 -- tags that follow a record: no two are the same, and none is that of a number that is spent
@@ -73,3 +75,25 @@ follows r bs (x ∷ xs) h =
         let left : r .spent < 4294967295 = omega (arith, grants c e .unspent) in
         rw (ap tagOfOutcome (gives r x e)) (one-more r (successOf c) (tagsGiven after) left (deep (omega arith)))
     go false e deep = deep h
+
+-- texts that differ in either case differ byte by byte
+differs-as-written : (t u : List ℕ) → differs t u ≡ true → not (same t u) ≡ true
+unfolding sameText
+differs-as-written t u k = go (same t u) refl
+  where
+    go : (b : Bool) → same t u ≡ b → not b ≡ true
+    go true h =
+        let alike : sameText t u ≡ true = rw (same-equal t u h) (same-self (lowered u)) in
+        absurd (true≢false (sym alike ∙ not-true (sameText t u) k))
+    go false h = refl
+
+-- and so do all tags of a list
+pub all-differ-as-written : (ts : List (List ℕ)) → allDiffer ts ≡ true → pairwise (λ t u. not (same t u)) ts ≡ true
+unfolding allDiffer pairwise
+all-differ-as-written [] e = refl
+all-differ-as-written (t ∷ ts) e =
+    and-both
+    (every (λ u. not (same t u)) ts)
+    (pairwise (λ t u. not (same t u)) ts)
+    (every-follows (differs t) (λ u. not (same t u)) ts (differs-as-written t) (pairwise-head differs t ts e))
+    (all-differ-as-written ts (pairwise-tail differs t ts e))

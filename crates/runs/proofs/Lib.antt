@@ -22,3 +22,4 @@ pub mod Promises
 pub mod Checks
 pub mod Facts
 pub mod Cases
+pub mod Capitals

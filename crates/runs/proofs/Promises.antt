@@ -75,7 +75,7 @@ C3-same-adds r r′ a h n e own = C3 r r′ a h (rw (n, e) at h) (rw (n, e)) own
 
 -- C4 (a tag matches exactly when). At any moment of the history of an address whose input presents a tag and passes the checks before
 -- 412: a live publication matches if and only if some earlier success there gave that tag for that package, the clock is below that
--- success's clock plus its granted time, and no later success there presented it.
+-- success's clock plus its granted time, and no later success there presented it, both in either case.
 pub C4 : (r : Run) (a : List ℕ) → isAdded a r ≡ true → (m : Moment (historyOf a r)) → isTried (m .now .input) (m .before) ≡ true
     → (matched (m .now) ≡ true) ↔ Stands (tagIn (m .now .input)) (packageIn (m .now .input)) (m .now .input .clock) (m .before)
 unfolding historyOf isFor
@@ -85,7 +85,7 @@ C4 r a h m k =
     let test = stands-tested (tagIn (m .now .input)) (packageIn (m .now .input)) (m .now .input .clock) (m .before) in
     (λ e. test .0 (sym is ∙ e), λ s. is ∙ test .1 s)
 
--- C5 (fresh). No two successes at an address give the same tag, whatever the packages.
+-- C5 (fresh). No two successes at an address give the same tag, in either case, whatever the packages.
 pub C5 : (r : Run) (a : List ℕ) → isAdded a r ≡ true → allDiffer (tagsGiven (historyOf a r)) ≡ true
 unfolding alone freshRecord
 C5 r a h =

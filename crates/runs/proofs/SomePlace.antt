@@ -13,9 +13,9 @@ use lib.Seq.{getD-set-same, getD-set-other}
 use borrow.Author.Tests.{ltb-true, eqb-true, eqb-false, not-true}
 use Rattle.laws.specs.Choose.{pick}
 use Rattle.laws.specs.Lists.{any}
-use Rattle.laws.proofs.Tests.{same-equal, place-holds}
+use Rattle.laws.proofs.Tests.{place-holds}
 use Rattle.tag.specs.Written.{isTagText}
-use Rattle.tag.proofs.Written.{tag-text-once}
+use Rattle.tag.proofs.Written.{tag-named-once}
 use Rattle.record.specs.Places.{Place, freePlace, places, lowestFree}
 use Rattle.success.specs.After.{freed, freedPlaces, isMatch, writtenSlot, written, endedPlaces, writtenPlaces, placesAfter}
 use Rattle.record.specs.declared.Record.{Record}
@@ -43,11 +43,6 @@ any-agree f g [] [] e h = refl
 any-agree f g [] (y ∷ ys) e h = absurd (omega arith)
 any-agree f g (x ∷ xs) [] e h = absurd (omega arith)
 any-agree f g (x ∷ xs) (y ∷ ys) e h = rw (h 0, any-agree f g xs ys (omega arith) (λ k. h (suc k)))
-
--- a token is no two tags
-named-once : (token : List ℕ) (m n : ℕ) → m < 4294967296 → n < 4294967296 → isTagText token m ≡ true → isTagText token n ≡ true → m ≡ n
-unfolding isTagText
-named-once token m n a b e f = tag-text-once m n a b (sym (same-equal _ _ e) ∙ same-equal _ _ f)
 
 -- a success at a record, with the token that it presents where it presents one
 pub record At (x : Success) (r : Record) (token : List ℕ) : Type 0 where
@@ -95,7 +90,7 @@ module _ (x : Success) (r : Record) (token : List ℕ) (success : At x r token) 
           → f o ≡ (f o && not (b && c))
       go true m true e true t =
           absurd (n m (success .kept .apart k (x .slot) t (success .taken m)
-          (named-once token _ _ (small r (success .kept) k t) (small r (success .kept) (x .slot) (success .taken m)) e (success .named m))))
+          (tag-named-once token _ _ (small r (success .kept) k t) (small r (success .kept) (x .slot) (success .taken m)) e (success .named m))))
       go true m true e false t = rw (untaken o t)
       go true m false e d t = sym (and-true (f o))
       go false m c e d t = sym (and-true (f o))

@@ -6,8 +6,8 @@ use Rattle.runs.specs.Added.{isOf, isAmong, isTaken, takenFrom, addedIn,
 use Rattle.runs.specs.Reach.{rowsBefore, isRead, isFor, isForNone, inputsFor, historyOf}
 use Rattle.runs.specs.Alone.{caseAt, answered, beginning, aloneFrom, alone, next, lifeOf, elsewhere}
 use Rattle.runs.specs.Tags.{hasTag, tagIn, packageIn, cameBack, succeeded, tagOfOutcome, timeOfOutcome, tagGiven, endOf, gave, presentedTag, someLeft, stands, isNotBack, isTried, matched, tagsGiven, allDiffer}
-use Rattle.runs.specs.Worked.{junkRecord, junkTable, entryWith, sent, calls, tells, asks, slotNumbers, recordNumbers, numbersOf, sidesFrom, forAnyPackage, toTheEnd, thoughPresented, wrongFrom, wrongAt, shownOf}
+use Rattle.runs.specs.Worked.{junkRecord, junkTable, entryWith, sent, calls, tells, asks, slotNumbers, recordNumbers, numbersOf, sidesFrom, forAnyPackage, toTheEnd, thoughPresented, presentedAsWritten, wrongFrom, wrongAt, shownOf}
 
 unfoldable pub all-runs : ℕ
-unfolding all-listing hasRoom hasNumbers given exchanges tableAtEnd inputs acceptedFrom accepted isOf isAmong isTaken takenFrom addedIn isAdded entryOf rowsBefore isRead isFor isForNone inputsFor historyOf caseAt answered beginning aloneFrom alone next lifeOf elsewhere hasTag tagIn packageIn cameBack succeeded tagOfOutcome timeOfOutcome tagGiven endOf gave presentedTag someLeft stands isNotBack isTried matched tagsGiven allDiffer junkRecord junkTable entryWith sent calls tells asks slotNumbers recordNumbers numbersOf sidesFrom forAnyPackage toTheEnd thoughPresented wrongFrom wrongAt shownOf
+unfolding all-listing hasRoom hasNumbers given exchanges tableAtEnd inputs acceptedFrom accepted isOf isAmong isTaken takenFrom addedIn isAdded entryOf rowsBefore isRead isFor isForNone inputsFor historyOf caseAt answered beginning aloneFrom alone next lifeOf elsewhere hasTag tagIn packageIn cameBack succeeded tagOfOutcome timeOfOutcome tagGiven endOf gave presentedTag someLeft stands isNotBack isTried matched tagsGiven allDiffer junkRecord junkTable entryWith sent calls tells asks slotNumbers recordNumbers numbersOf sidesFrom forAnyPackage toTheEnd thoughPresented presentedAsWritten wrongFrom wrongAt shownOf
 all-runs = 0

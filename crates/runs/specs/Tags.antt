@@ -5,7 +5,8 @@ use mathlib.Core.Path.{_≡_}
 use mathlib.Core.Bool.{Bool, true, false, _&&_, _||_, not}
 use mathlib.Core.List.{List, [], _∷_, map}
 use lib.Dec.{eqb, ltb, leb}
-use Rattle.laws.specs.Lists.{any, every, those, pairwise, same}
+use Rattle.laws.specs.Lists.{any, every, those, pairwise}
+use Rattle.text.specs.Names.{sameText}
 use Rattle.request.specs.Head.{headOf}
 use Rattle.request.specs.Fields.{hasMatch, matchText, isBadMatch}
 use Rattle.tag.specs.Written.{tagText, isTagText}
@@ -57,16 +58,16 @@ tagGiven x = tagOfOutcome (cameBack x)
 unfoldable pub endOf : Exchange → ℕ
 endOf x = x .input .clock + timeOfOutcome (cameBack x)
 
--- a success that gave the tag t for the package p
+-- a success that gave the tag t, in either case, for the package p
 unfoldable pub gave : List ℕ → ℕ → Exchange → Bool
 gave t p x = succeeded x && (eqb (packageIn (x .input)) p && isTagText t (tagGiven x))
 
--- a success that presented that tag
+-- a success that presented that tag, in either case
 unfoldable pub presentedTag : ℕ → Exchange → Bool
 presentedTag tag x = succeeded x && (hasTag (x .input) && isTagText (tagIn (x .input)) tag)
 
 -- the tag t stands for the package p at a clock, by what was before: some earlier success gave t for p, the clock is below that
--- success's clock plus its granted time, and no later success presented that tag
+-- success's clock plus its granted time, and no later success presented that tag, both in either case
 pub record Stands (t : List ℕ) (p clock : ℕ) (before : List Exchange) : Type 0 where
   pub giving : Moment before
   pub gave-it : gave t p (giving .now) ≡ true
@@ -102,6 +103,6 @@ matched x = not (eqb (statusOf (cameBack x)) 412)
 unfoldable pub tagsGiven : List Exchange → List (List ℕ)
 tagsGiven xs = map (λ x. tagText (tagGiven x)) (those succeeded xs)
 
--- no two are the same
+-- no two are the same, in either case
 unfoldable pub allDiffer : List (List ℕ) → Bool
-allDiffer ts = pairwise (λ t u. not (same t u)) ts
+allDiffer ts = pairwise (λ t u. not (sameText t u)) ts

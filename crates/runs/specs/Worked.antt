@@ -7,8 +7,8 @@ use lib.Dec.{ltb, leb}
 use lib.ListN.{replicate}
 use Rattle.laws.specs.Choose.{pick}
 use Rattle.laws.specs.Bytes.{bytes}
-use Rattle.laws.specs.Lists.{those}
-use Rattle.tag.specs.Written.{isTagText}
+use Rattle.laws.specs.Lists.{those, same}
+use Rattle.tag.specs.Written.{tagText, isTagText}
 use Rattle.record.specs.Places.{zeroSlot}
 use Rattle.record.specs.declared.Slot.{Slot}
 use Rattle.record.specs.declared.Record.{Record}
@@ -98,6 +98,14 @@ toTheEnd t p clock before = someLeft (λ x. gave t p x && leb clock (endOf x)) (
 unfoldable pub thoughPresented : List ℕ → ℕ → ℕ → List Exchange → Bool
 thoughPresented t p clock before = someLeft (λ x. gave t p x && ltb clock (endOf x)) (λ x y. false) before
 
+-- wrong: a tag counts as presented only where it is presented as it is written
+unfoldable pub presentedAsWritten : List ℕ → ℕ → ℕ → List Exchange → Bool
+presentedAsWritten t p clock before =
+    someLeft
+    (λ x. gave t p x && ltb clock (endOf x))
+    (λ x y. presentedTag (tagGiven x) y && same (tagIn (y .input)) (tagText (tagGiven x)))
+    before
+
 -- where a tried input was not matched though a test says that its tag stands, counted from 0
 unfoldable pub wrongFrom : ℕ → List Sides → List ℕ
 wrongFrom i [] = []
@@ -115,6 +123,7 @@ pub record Shown : Type 0 where
   pub any-package : List ℕ
   pub to-the-end : List ℕ
   pub though-presented : List ℕ
+  pub presented-as-written : List ℕ
   pub any-address : List ℕ
   pub differ-anywhere : Bool
 
@@ -128,6 +137,7 @@ shownOf a all =
       any-package = wrongAt forAnyPackage history;
       to-the-end = wrongAt toTheEnd history;
       though-presented = wrongAt thoughPresented history;
+      presented-as-written = wrongAt presentedAsWritten history;
       any-address = wrongAt stands all;
       differ-anywhere = allDiffer (tagsGiven all);
     }

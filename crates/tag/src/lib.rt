@@ -48,11 +48,11 @@ pub fn is_given(start: u32, spent: u32, tag: u32) -> bool
     n <= spent as u64
 }
 
-// Whether a presented token is this tag.
+// Whether a presented token is this tag, in either case.
 pub fn is_tag_text(token: &[u8], tag: u32) -> bool
     ensures { λ r. ⌜ r ≡ isTagText (now (token .entry)) tag ⌝ }
 {
     let mut written = [0u8; 8];
     text::digits::put_eight(&mut written, 0, tag);
-    text::runs::are_same(token, &written)
+    text::names::same_text(token, &written)
 }

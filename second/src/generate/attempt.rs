@@ -3,12 +3,12 @@
 
 use super::draft::Draft;
 use super::random::Random;
+use super::spelling::spelled;
 use super::values;
 use super::world::World;
 use crate::frames_out::request_frame;
 use crate::names::Name;
 use crate::packages;
-use crate::text::eight_hex_digits;
 
 pub struct Attempt {
     /// None where the table has no address yet.
@@ -21,7 +21,7 @@ pub struct Attempt {
 /// What a request says, before it is put in words.
 pub struct Wish {
     pub package: usize,
-    pub presented: Option<[u8; 8]>,
+    pub presented: Option<Vec<u8>>,
     pub expires: Option<String>,
     pub body: Vec<u8>,
 }
@@ -41,7 +41,7 @@ impl Wish {
         let slot = &world.record(r).slots[k];
         Wish {
             package: slot.package,
-            presented: Some(eight_hex_digits(slot.tag)),
+            presented: Some(spelled(slot.tag, random)),
             expires: values::expires(slot.package, random),
             body: Vec::new(),
         }

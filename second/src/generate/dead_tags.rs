@@ -2,10 +2,10 @@
 
 use super::attempt::Attempt;
 use super::random::Random;
+use super::spelling::{nearly_as_token, spelled};
 use super::world::World;
 use crate::record::CLOCK_LIMIT;
 use crate::tags::tag_of;
-use crate::text::eight_hex_digits;
 
 /// A tag of the past, of elsewhere, of the future, run out or misspelled.
 /// Empty where there is none of that kind.
@@ -13,21 +13,22 @@ pub fn dead_tag(attempt: &mut Attempt, r: usize, world: &World, random: &mut Ran
     let record = world.record(r);
     let package = attempt.package;
     let occupied: Vec<_> = record.occupied().map(|(_, slot)| *slot).collect();
-    let found = match random.below(8) {
+    let found = match random.below(9) {
         0 => random.pick_any(&given_tags(world, |by| by == r)),
         1 => random.pick_any(&given_tags(world, |by| by != r)),
-        2 => Some(tag_of(record.start, record.spent.wrapping_add(1))),
-        3 => occupied
+        2 => random.pick_any(&tags_elsewhere(world, r)),
+        3 => Some(tag_of(record.start, record.spent.wrapping_add(1))),
+        4 => occupied
             .iter()
             .find(|slot| slot.package != package)
             .map(|slot| slot.tag),
-        4 => random.pick_any(&occupied).map(|slot| {
+        5 => random.pick_any(&occupied).map(|slot| {
             attempt.clock = (slot.end + random.below(2)).clamp(record.latest, CLOCK_LIMIT);
             slot.tag
         }),
         _ => return misspelled_tag(attempt, r, world, random),
     };
-    found.map_or(Vec::new(), |tag| eight_hex_digits(tag).to_vec())
+    found.map_or(Vec::new(), |tag| spelled(tag, random))
 }
 
 /// A tag that would be the right one, but for its spelling.
@@ -46,10 +47,21 @@ fn given_tags(world: &World, by: impl Fn(usize) -> bool) -> Vec<u32> {
     given.map(|&(_, tag)| tag).collect()
 }
 
+/// The tags that other addresses have now.
+fn tags_elsewhere(world: &World, r: usize) -> Vec<u32> {
+    let others = world
+        .records()
+        .iter()
+        .enumerate()
+        .filter(|&(by, _)| by != r);
+    let slots = others.flat_map(|(_, record)| record.occupied());
+    slots.map(|(_, slot)| slot.tag).collect()
+}
+
 fn misspelled(tag: u32, random: &mut Random) -> Vec<u8> {
-    let mut text = eight_hex_digits(tag).to_vec();
+    let mut text = spelled(tag, random);
     match random.below(6) {
-        0 | 1 => text.make_ascii_uppercase(),
+        0 | 1 => text = nearly_as_token(tag, random),
         2 => {
             text.pop();
         }

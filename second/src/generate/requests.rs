@@ -9,13 +9,13 @@ use super::lines::{any_case_line, lengthen, mutate};
 use super::mutations::{mutate_lines, scrap};
 use super::oddities::{long_value, odd_value};
 use super::random::Random;
+use super::spelling::spelled;
 use super::world::World;
 use crate::frames_out::frame_line;
 use crate::handle::LONGEST_REQUEST;
 use crate::names::Name;
 use crate::reads::MOST_DIGITS;
 use crate::request::MOST_HEADER_LINES;
-use crate::text::eight_hex_digits;
 
 #[derive(Clone, Copy)]
 enum Idea {
@@ -159,7 +159,7 @@ fn good(random: &mut Random) -> Attempt {
 fn any_wish(random: &mut Random) -> Wish {
     let mut wish = Wish::initial(random);
     if random.one_in(2) {
-        wish.presented = Some(eight_hex_digits(random.word() as u32));
+        wish.presented = Some(spelled(random.word() as u32, random));
         if random.one_in(2) {
             wish.body.clear();
         }

@@ -3,6 +3,7 @@
 
 use super::random::Random;
 use super::scene::Scene;
+use super::spelling::{nearly, spelled};
 use super::values;
 use super::world::{clock_for, live_clock};
 use crate::packages;
@@ -10,7 +11,6 @@ use crate::record::{Slot, CLOCK_LIMIT};
 use crate::script_in::Publication;
 use crate::script_out::{publication_bytes, show_bytes};
 use crate::tags::tag_of;
-use crate::text::eight_hex_digits;
 
 #[derive(Clone, Copy, Debug, PartialEq, Eq)]
 pub enum Step {
@@ -138,7 +138,7 @@ fn refresh_of(k: usize, slot: &Slot, scene: &Scene, random: &mut Random) -> Publ
         clock: live_clock(scene.record(), k, random),
         package: slot.package,
         granted: granted(slot.package, random),
-        token: eight_hex_digits(slot.tag).to_vec(),
+        token: spelled(slot.tag, random),
         body: Vec::new(),
     }
 }
@@ -231,7 +231,7 @@ fn stale(scene: &Scene, random: &mut Random) -> Option<Publication> {
     if random.one_in(4) {
         made.granted = 0;
     }
-    made.token = eight_hex_digits(tag).to_vec();
+    made.token = spelled(tag, random);
     Some(made)
 }
 
@@ -241,7 +241,7 @@ fn mangled(scene: &Scene, random: &mut Random) -> Option<Publication> {
     let mut made = publication(step, scene, random);
     let token = &mut made.token;
     match random.below(9) {
-        0 | 1 => token.make_ascii_uppercase(),
+        0 | 1 => *token = nearly(token, random),
         2 => token.truncate(7),
         3 => token.reverse(),
         4 => token.push(b'0'),

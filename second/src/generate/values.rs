@@ -173,9 +173,20 @@ pub const NOT_ONE_TOKEN: &[&str] = &[
     "a=b",
     "\u{e9}",
     "@",
+    "9e3779b@",
+    "[e3779b9",
+    "{E3779B9",
 ];
 
-pub const NEVER_A_TAG: &[&str] = &["*", "0", "tag", "0x9e3779b9", "9e3779b9.", "nine-one"];
+pub const NEVER_A_TAG: &[&str] = &[
+    "*",
+    "0",
+    "tag",
+    "0x9e3779b9",
+    "9e3779b9.",
+    "9E3779B`",
+    "nine-one",
+];
 
 pub const OTHER_CONTENT_TYPES: &[&str] = &[
     "",

@@ -263,7 +263,9 @@ fn unmatched_tags() {
     tale.publish(0, PRESENCE, 3600, "", "a");
     tale.publish(0, DIALOG, 3600, "", "b");
     for tag in [
-        "9E3779BA",
+        "9E3779B9",
+        "YE3779BA",
+        "\u{19}e3779ba",
         "9e3779b",
         "e3779ba",
         "9e3779ba0",

@@ -14,6 +14,7 @@ mod requests;
 mod rows;
 mod scripts;
 mod sizes;
+mod spelling;
 mod successes;
 mod table;
 mod witness_reading;

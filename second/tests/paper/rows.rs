@@ -194,7 +194,15 @@ fn row_412() {
         (3699, "9e3779b9", "presence", "200 3c6ef372 3600"),
         (3700, "9e3779b9", "presence", "412 - -"),
         (3699, "9e3779b9", "dialog", "412 - -"),
-        (3699, "9E3779B9", "presence", "412 - -"),
+        (3699, "9E3779B9", "presence", "200 3c6ef372 3600"),
+        (3699, "9e3779B9", "presence", "200 3c6ef372 3600"),
+        (3700, "9E3779B9", "presence", "412 - -"),
+        (3699, "9E3779B9", "dialog", "412 - -"),
+        (3699, "Ye3779b9", "presence", "412 - -"),
+        (3699, "9e3779b`", "presence", "412 - -"),
+        (3699, "9%3779b9", "presence", "412 - -"),
+        (3699, "9e3779b@", "presence", "400 - -"),
+        (3699, "[e3779b9", "presence", "400 - -"),
         (3699, "9e3779b", "presence", "412 - -"),
         (3699, "09e3779b9", "presence", "412 - -"),
         (3699, "3c6ef372", "presence", "412 - -"),
@@ -208,8 +216,10 @@ fn row_412() {
 fn row_412_for_a_tag_of_another_address() {
     let mut table = Table::new();
     table.initial(100, 3600);
-    let lines = "Event: presence\nSIP-If-Match: 9e3779b9\n";
-    assert_eq!(table.to("bo", 100, lines, ""), "412 - -");
+    for tag in ["9e3779b9", "9E3779B9"] {
+        let lines = format!("Event: presence\nSIP-If-Match: {}\n", tag);
+        assert_eq!(table.to("bo", 100, &lines, ""), "412 - -");
+    }
 }
 
 #[test]

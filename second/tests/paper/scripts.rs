@@ -168,7 +168,7 @@ fn clocks_about_an_end_and_shorter_bodies() {
         if let (ScriptLine::Publish(asked), Some(life)) = (&line, &lives.life) {
             for (_, slot) in life.record().occupied() {
                 let about = (asked.clock + 1).wrapping_sub(slot.end);
-                let own = asked.token == second::text::eight_hex_digits(slot.tag);
+                let own = second::tags::presents(&asked.token, slot.tag);
                 if own && about < 3 {
                     *seen
                         .entry(["below", "at", "above"][about as usize])

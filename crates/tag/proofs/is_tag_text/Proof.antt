@@ -3,8 +3,8 @@ use mathlib.Core.Path.{_∙_, ap}
 use mathlib.Core.List.{List}
 use Prim.Native.Nat.{ℕ}
 use denote.Ref.{now}
-use Rattle.laws.specs.Lists.{same}
 use Rattle.laws.proofs.Wrote.{wrote-whole}
+use Rattle.text.specs.Names.{sameText}
 use Rattle.text.proofs.DigitLaws.{eight-length}
 use Rattle.tag.specs.Written.{isTagText, tagText}
 use borrow.Author.Needs.{needs}
@@ -17,17 +17,17 @@ slice-aggregate-put-eight c = search needs
 put-eight-requires : tie.Need-put-eight-requires
 put-eight-requires c κs = search needs
 
-slice-aggregate-are-same : tie.Need-slice-aggregate-are-same
-slice-aggregate-are-same c = search needs
+slice-aggregate-same-text : tie.Need-slice-aggregate-same-text
+slice-aggregate-same-text c = search needs
 
-are-same-requires : tie.Need-are-same-requires
-are-same-requires c κs = search needs
+same-text-requires : tie.Need-same-text-requires
+same-text-requires c κs = search needs
 
 returns : tie.Need-returns
 unfolding isTagText tagText
 returns c =
-    c .are-same .ensures
-    ∙ ap (λ (d : List ℕ). same (now (c .before .before .before .before .before .before .args .token)) d) (wrote-whole (c .before .before .before .put-eight .ensures) (eight-length _))
+    c .same-text .ensures
+    ∙ ap (λ (d : List ℕ). sameText (now (c .before .before .before .before .before .before .args .token)) d) (wrote-whole (c .before .before .before .put-eight .ensures) (eight-length _))
 
 pub is-tag-text-spec : {M : Type 1} → statement M
 is-tag-text-spec =
@@ -35,6 +35,6 @@ is-tag-text-spec =
     (tie.spec
     slice-aggregate-put-eight
     put-eight-requires
-    slice-aggregate-are-same
-    are-same-requires
+    slice-aggregate-same-text
+    same-text-requires
     returns)
