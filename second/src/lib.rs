@@ -1,4 +1,4 @@
-//! The publication part of the presence server, written from the paper alone.
+//! The publication part of the presence server, written from documents 01 and 02 alone.
 //! It is held against the proved definitions byte by byte.
 
 pub mod bench;

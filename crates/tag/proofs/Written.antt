@@ -40,7 +40,7 @@ unfolding tagText eightHex hexNumber
 tag-text-names tag h = hex-back 8 tag h
 
 -- different tags are written differently
-tag-text-once : (a b : ℕ) → a < 4294967296 → b < 4294967296 → tagText a ≡ tagText b → a ≡ b
+pub tag-text-once : (a b : ℕ) → a < 4294967296 → b < 4294967296 → tagText a ≡ tagText b → a ≡ b
 tag-text-once a b ha hb e = sym (tag-text-names a ha) ∙ ap hexNumber e ∙ tag-text-names b hb
 
 -- a digit that is written is no capital

@@ -281,7 +281,7 @@ fn unmatched_tags() {
         );
     }
     assert_eq!(tale.publish(0, DIALOG, 60, "9e3779ba", "c"), "unmatched");
-    assert_eq!(tale.publish(0, SUMMARY, 60, "9e3779ba", ""), "unmatched");
+    assert_eq!(tale.publish(0, SUMMARY, 60, "9E3779BA", ""), "unmatched");
     assert_eq!(tale.publish(0, PRESENCE, 60, "3c6ef373", ""), "unmatched");
     assert_eq!(
         tale.publish(0, PRESENCE, 60, "9e3779ba", ""),
@@ -292,6 +292,21 @@ fn unmatched_tags() {
         tale.publish(0, DIALOG, 0, "3c6ef373", ""),
         "gives 78dde6e5 1"
     );
+}
+
+#[test]
+fn tags_match_in_either_case() {
+    for (tag, again) in [("9E3779BA", "9e3779ba"), ("9e3779bA", "9E3779Ba")] {
+        let mut tale = Tale::begin(1, 0);
+        tale.publish(0, PRESENCE, 3600, "", "a");
+        assert_eq!(tale.publish(0, PRESENCE, 60, tag, ""), "gives 3c6ef373 0");
+        assert_eq!(tale.publish(0, PRESENCE, 60, tag, ""), "unmatched");
+        assert_eq!(tale.publish(0, PRESENCE, 60, again, ""), "unmatched");
+        assert_eq!(
+            tale.publish(0, PRESENCE, 0, "3C6Ef373", ""),
+            "gives daa66d2c 0"
+        );
+    }
 }
 
 #[test]

@@ -148,16 +148,32 @@ fn bodies_and_tokens_of_every_kind() {
     for length in [0, 7, 8, 9, 255] {
         assert!(any(&|asked| asked.token.len() == length), "{}", length);
     }
-    let capitals = |asked: &Publication| asked.token.iter().any(u8::is_ascii_uppercase);
-    assert!(any(&|asked| asked.token.len() == 8
-        && is_token(&asked.token)
-        && capitals(asked)));
     for package in 0..packages::COUNT {
         let most = packages::MOST[package];
         assert!(any(
             &|asked| asked.package == package && asked.granted == most
         ));
     }
+}
+
+#[test]
+fn tags_in_every_spelling() {
+    let told = publications(3, 3000);
+    let any = |matches: bool, test: &dyn Fn(&[u8]) -> bool| {
+        told.iter().any(|(asked, happening)| {
+            let gives = matches!(happening, Happening::Gives { .. });
+            asked.token.len() == 8 && gives == matches && test(&asked.token)
+        })
+    };
+    let capitals = |token: &[u8]| token.iter().any(u8::is_ascii_uppercase);
+    let small = |token: &[u8]| token.iter().any(u8::is_ascii_lowercase);
+    for matches in [true, false] {
+        assert!(any(matches, &|token| capitals(token) && !small(token)));
+        assert!(any(matches, &|token| capitals(token) && small(token)));
+        assert!(any(matches, &|token| !capitals(token) && small(token)));
+    }
+    assert!(any(false, &|token| !is_token(token)));
+    assert!(!any(true, &|token| !is_token(token)));
 }
 
 #[test]
