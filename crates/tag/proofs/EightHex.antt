@@ -2,7 +2,7 @@
 use mathlib.Core.Path.{_≡_, refl, sym, _∙_, ap, ap₂, subst}
 use mathlib.Core.Logic.{_↔_}
 use mathlib.Core.Bool.{Bool, true, false, _&&_, _||_, not, and-false, false≢true}
-use mathlib.Core.List.{List, [], _∷_, _++_}
+use mathlib.Core.List.{List, [], _∷_}
 use Prim.Native.Nat.{ℕ, zero, suc, _+_, _*_, _%_, _/_, _<_}
 use native.Mathlib.Decide.{ℕ-discrete, decLt}
 use native.Mathlib.Omega.{arith}
@@ -11,7 +11,8 @@ use lib.ListN.{length}
 use borrow.Author.Tests.{lt-leb, lt-ltb, ltb-true}
 use Rattle.laws.specs.Lists.{every}
 use Rattle.laws.proofs.Below.{below}
-use Rattle.laws.proofs.Tests.{every-head, every-tail, every-cons, same-self}
+use Rattle.laws.proofs.Lists.{every-end}
+use Rattle.laws.proofs.Tests.{every-head, every-tail, same-self}
 use Rattle.text.specs.Class.{isDigit}
 use Rattle.text.specs.Digits.{eightHex, hexDigits, hexDigit, hexValue, hexFrom, hexNumber}
 use Rattle.text.specs.Names.{lower, lowered, sameText}
@@ -80,15 +81,10 @@ one-spelling (x ∷ s) (y ∷ t) v w l a b e =
 digit-hex : (d : ℕ) → d < 16 → isHex (hexDigit d) ≡ true
 digit-hex d h = lt-ltb (hexValue (hexDigit d)) 16 (rw (digit-back d h) h)
 
-every-behind : (f : ℕ → Bool) (s : List ℕ) (x : ℕ) → every f s ≡ true → f x ≡ true → every f (s ++ (x ∷ [])) ≡ true
-unfolding every
-every-behind f [] x e h = every-cons f x [] h refl
-every-behind f (y ∷ s) x e h = every-cons f y (s ++ (x ∷ [])) (every-head f y s e) (every-behind f s x (every-tail f y s e) h)
-
 written-hex : (k n : ℕ) → every isHex (hexDigits k n) ≡ true
 unfolding hexDigits every
 written-hex zero n = refl
-written-hex (suc k) n = every-behind isHex (hexDigits k (n / 16)) (hexDigit (n % 16)) (written-hex k (n / 16)) (digit-hex (n % 16) (omega arith))
+written-hex (suc k) n = every-end isHex (hexDigits k (n / 16)) (hexDigit (n % 16)) (written-hex k (n / 16)) (digit-hex (n % 16) (omega arith))
 
 -- a token is a tag exactly where it is eight hex digits, in either case, that make its number
 pub tag-read : (token : List ℕ) (tag : ℕ) → tag < 4294967296 → (isTagText token tag ≡ true) ↔ EightHex token tag
