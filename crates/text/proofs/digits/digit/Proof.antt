@@ -1,24 +1,20 @@
--- `digit` meets its contract: the table is tested against the rule at each of the 16 numbers.
-use borrow.Author.Needs.{needs}
-use mathlib.Core.List.{List, [], _∷_}
-use Prim.Native.Nat.{ℕ}
-use lib.Dec.{eqb, eqb→eq}
-use lib.ListN.{getD}
-use Rattle.laws.proofs.Below.{below}
+-- `digit` meets its contract: its test is that of the definition.
+use borrow.Author.Tests.{le-ltb, lt-ltb}
+use mathlib.Core.Logic.{⊎-elim}
+use native.Mathlib.Omega.{arith}
 use Rattle.text.specs.Digits.{hexDigit}
 use Rattle.text.proofs.digits.digit.Statement.{statement}
 use Rattle.text.proofs.digits.digit.Tie as tie
 
--- the table
-abbrev table : List ℕ
-table = 48 ∷ 49 ∷ 50 ∷ 51 ∷ 52 ∷ 53 ∷ 54 ∷ 55 ∷ 56 ∷ 57 ∷ 97 ∷ 98 ∷ 99 ∷ 100 ∷ 101 ∷ 102 ∷ []
+add-result : tie.Need-add-result
+add-result c = ⊎-elim (λ w. omega arith) (λ w. omega arith) (c .before .if1 .came)
 
-array-read-result : tie.Need-array-read-result
-array-read-result c = search needs
+cast-result : tie.Need-cast-result
+cast-result c = ⊎-elim (λ w. omega arith) (λ w. omega arith) (c .before .if1 .came)
 
 returns : tie.Need-returns
 unfolding hexDigit
-returns c = eqb→eq _ _ (below (λ n. eqb (getD table n 0) (hexDigit n)) 16 tt (c .args .n) (search needs))
+returns c = ⊎-elim (λ w. rw (w .1, lt-ltb _ _ (w .0 .taken))) (λ w. rw (w .1, le-ltb _ _ (w .0 .left))) (c .before .if1 .came)
 
 pub digit-spec : {M : Type 1} → statement M
-digit-spec = tie.close (tie.spec array-read-result returns)
+digit-spec = tie.close (tie.spec add-result cast-result returns)
