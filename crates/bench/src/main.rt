@@ -1,4 +1,8 @@
 // The bench: prints the listing of the frames on standard input.
-fn main() {
-    desk::run::run(false);
+#![tactic(auto)]
+
+use std::io;
+
+fn main(rt: HostRuntime) -> io::Result<()> {
+    desk::run::run(&mut rt.stdin(), &mut rt.stdout(), false)
 }

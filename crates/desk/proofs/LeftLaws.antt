@@ -8,7 +8,7 @@ use Rattle.table.specs.Handle.{Done}
 use Rattle.table.specs.declared.Handled.{Handled}
 use Rattle.listing.specs.Frames.{adds, handles, bad}
 use Rattle.frames.specs.declared.shown.Shown.TheVariants.{Added, Answered, Bad}
-use Rattle.windgusset.specs.Contracts.{AddedAs, HandledAs}
+use Rattle.windgusset.specs.Ensured.{AddedAs, HandledAs}
 use Rattle.desk.specs.Left.{left_by, LeftAs}
 
 module _ (rs : List Record) (store : List ℕ) where

@@ -5,3 +5,4 @@ pub mod OpenLaws
 pub mod ReadingLaws
 pub mod ReadToLaws
 pub mod PrintedLaws
+pub mod ErrLaws

@@ -9,7 +9,7 @@ use Rattle.publish.specs.Refusals.{is_bad_size}
 use Rattle.table.specs.Table.{Table, bad_size}
 use Rattle.table.specs.Open.{After, opened, emptied}
 use Rattle.listing.specs.Lent.{zero_table, open_table}
-use Rattle.windgusset.specs.Contracts.{OpenedAs}
+use Rattle.windgusset.specs.Ensured.{OpenedAs}
 
 -- a table of these sizes is emptied, whatever it holds
 sizes_open : (t : Table) → length t.records ≡ 16 → length t.store ≡ 65536

@@ -8,7 +8,7 @@ use native.Mathlib.Numerals.{add-one}
 use native.Mathlib.Omega.{arith}
 use lib.Dec.{eqb, ltb}
 use lib.ListN.{length, get_or, take, drop, length-append, length-drop}
-use lib.Seq.{take-nil, drop-cons, drop-drop, get_or-drop}
+use lib.Seq.{take-nil, take-add, drop-cons, drop-drop, get_or-drop}
 use borrow.Author.Tests.{eqb-true, ltb-true, lt-ltb, le-ltb}
 use Rattle.laws.specs.Choose.{pick}
 use Rattle.laws.specs.Lists.{part}
@@ -61,6 +61,23 @@ run_held s (b ∷ bs) = go (eqb b 10) refl (run_held (hold_on s (b ∷ [])) bs)
     go true e r = rw (hold_none s)
     go false e r = rw e (r ∙ ap (λ (x : Reading). read_on x (drop k bs)) (hold_more s (b ∷ []) (take k bs)))
 
+-- read alone too
+run_front : (s : Reading) (bs : List ℕ) → read_on s (take (run (is_other 10) bs) bs) ≡ hold_on s (take (run (is_other 10) bs) bs)
+unfolding run read_on byte_on
+run_front s [] = sym (hold_none s)
+run_front s (b ∷ bs) = go (eqb b 10) refl (run_front (hold_on s (b ∷ [])) bs)
+  where
+    k : ℕ
+    k = run (is_other 10) bs
+
+    held : eqb b 10 ≡ false → byte_on s b ≡ hold_on s (b ∷ [])
+    held e = rw e refl
+
+    go : (t : Bool) → eqb b 10 ≡ t → read_on (hold_on s (b ∷ [])) (take k bs) ≡ hold_on (hold_on s (b ∷ [])) (take k bs)
+        → read_on s (take (pick (not t) (suc k) 0) (b ∷ bs)) ≡ hold_on s (take (pick (not t) (suc k) 0) (b ∷ bs))
+    go true e r = sym (hold_none s)
+    go false e r = ap (λ (x : Reading). read_on x (take k bs)) (held e) ∙ r ∙ hold_more s (b ∷ []) (take k bs)
+
 -- a run of other bytes that ends within the text ends at LF
 run_stops : (s : List ℕ) → run (is_other 10) s < length s → get_or s (run (is_other 10) s) 0 ≡ 10
 unfolding run
@@ -87,12 +104,26 @@ module _ (s : Reading) (c : List ℕ) (at : ℕ) where
       rw (n, ← drop-drop k at c) (run_held s (drop at c))
 
   -- one that ends within the chunk ends at LF
+  piece_lf : e < length c → get_or c e 0 ≡ 10
+  unfolding past
+  piece_lf h =
+      let k = run (is_other 10) (drop at c) in sym (get_or-drop at c k 0) ∙ run_stops (drop at c) (omega (arith, length-drop at c))
+
+  -- behind which the next begins
   piece_stops : e < length c → drop e c ≡ 10 ∷ drop (e + 1) c
   unfolding past
   piece_stops h =
       let k = run (is_other 10) (drop at c) in
-      let lf : get_or c (at + k) 0 ≡ 10 = sym (get_or-drop at c k 0) ∙ run_stops (drop at c) (omega (arith, length-drop at c)) in
-      rw (add-one (at + k)) (drop-cons c (at + k) 0 h ∙ ap (λ (b : ℕ). b ∷ drop (suc (at + k)) c) lf)
+      rw (add-one (at + k)) (drop-cons c (at + k) 0 h ∙ ap (λ (b : ℕ). b ∷ drop (suc (at + k)) c) (piece_lf h))
+
+  -- so does one behind which the next begins further on
+  pub piece_ended : {p : Piece} → p ≡ piece_at c at → ltb p.end p.next ≡ true → (get_or c p.end 0 ≡ 10) × (p.next ≡ p.end + 1)
+  unfolding piece_at
+  piece_ended is t = rw is (go (ltb e (length c)) refl (rw is at t))
+    where
+      go : (b : Bool) → ltb e (length c) ≡ b → ltb e (pick b (e + 1) e) ≡ true → (get_or c e 0 ≡ 10) × (pick b (e + 1) e ≡ e + 1)
+      go true w t = (piece_lf (ltb-true e (length c) w), refl)
+      go false w t = let h = ltb-true e e t in (omega (arith, h), omega (arith, h))
 
   -- the bytes from there on: the piece, its LF, and those behind it
   pub piece_read : {p : Piece} → p ≡ piece_at c at
@@ -109,3 +140,37 @@ module _ (s : Reading) (c : List ℕ) (at : ℕ) where
           rw (lt-ltb e (e + 1) (omega arith))
           (piece_held ∙ ap (λ (bs : List ℕ). read_on h bs) (piece_stops (ltb-true e (length c) w)))
       go false w = rw (le-ltb e e (omega arith)) piece_held
+
+  -- the piece and its LF alone
+  pub piece_front : {p : Piece} → p ≡ piece_at c at
+      → read_on s (take (p.next - at) (drop at c)) ≡ piece_on s (part c at p.end) (ltb p.end p.next)
+  unfolding piece_at piece_on read_on byte_on past part
+  piece_front is = rw is (go (ltb e (length c)) refl)
+    where
+      h : Reading
+      h = hold_on s (part c at e)
+
+      held : read_on s (take (e - at) (drop at c)) ≡ h
+      held =
+          let n : e - at ≡ run (is_other 10) (drop at c) = omega arith in
+          rw n (run_front s (drop at c))
+
+      -- LF stands behind the piece
+      drops : e < length c → drop (e - at) (drop at c) ≡ 10 ∷ drop (e + 1) c
+      drops h =
+          let k = run (is_other 10) (drop at c) in
+          let n : e - at ≡ k = omega arith in
+          rw n (drop-drop k at c ∙ piece_stops h)
+
+      ends : e < length c → take (e + 1 - at) (drop at c) ≡ take (e - at) (drop at c) ++ (10 ∷ [])
+      ends h =
+          let n : e + 1 - at ≡ e - at + 1 = omega arith in
+          ap (λ (n : ℕ). take n (drop at c)) n ∙ take-add (e - at) 1 (drop at c)
+          ∙ ap (λ (l : List ℕ). take (e - at) (drop at c) ++ take 1 l) (drops h)
+
+      go : (t : Bool) → ltb e (length c) ≡ t
+          → read_on s (take (pick t (e + 1) e - at) (drop at c)) ≡ pick (ltb e (pick t (e + 1) e)) (line_on h) h
+      go true w =
+          rw (lt-ltb e (e + 1) (omega arith))
+          (ap (λ (l : List ℕ). read_on s l) (ends (ltb-true e (length c) w)) ∙ read_append s (take (e - at) (drop at c)) (10 ∷ []) ∙ ap (λ (x : Reading). line_on x) held)
+      go false w = rw (le-ltb e e (omega arith)) held

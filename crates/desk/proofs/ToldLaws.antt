@@ -18,7 +18,7 @@ use Rattle.frames.specs.Shown.{shown_text}
 use Rattle.frames.specs.declared.shown.Shown.{Shown}
 use Rattle.frames.specs.declared.shown.Shown.TheVariants.{Read}
 use Rattle.frames.proofs.WantedLaws.{Reads, reading_within, reading_order}
-use Rattle.windgusset.specs.Contracts.{StateAs}
+use Rattle.windgusset.specs.Ensured.{StateAs}
 use Rattle.desk.specs.Told.{told_text}
 
 -- the state that is read for an address and a package of a frame

@@ -1,8 +1,8 @@
 -- What the program holds while it reads, as the definition has it.
-use Rattle.std.specs.Prelude.{◌≡◌, Bool, List, ℕ, ◌≤◌}
+use Rattle.std.specs.Prelude.{◌≡◌, Bool, List, ℕ, ◌+◌, ◌≤◌, get_or, take}
 use Rattle.laws.specs.Choose.{pick}
 use Rattle.laws.specs.Lists.{part}
-use Rattle.desk.specs.Reading.{Reading, hold_on, line_on}
+use Rattle.desk.specs.Reading.{Reading, hold_on, line_on, read_on}
 use Rattle.desk.specs.declared.reading.Progress.{Progress}
 
 -- the front of the line's buffer is held, and the records and the store are the table
@@ -17,3 +17,9 @@ pub record ReadTo (s : Reading) (line : List ℕ) (p : Progress) (store : List �
 -- a piece of a line is held, and where it ends the line, that is run
 unfoldable pub piece_on : Reading → List ℕ → Bool → Reading
 piece_on s bs ended = let h = hold_on s bs in pick ended (line_on h) h
+
+-- the store is the one behind a line that LF ends at a position of a chunk
+pub record RunIn (s : Reading) (chunk store : List ℕ) : Type 0 where
+  pub at : ℕ
+  pub ends : get_or chunk at 0 ≡ 10
+  pub runs : store ≡ (read_on s (take (at + 1) chunk)).table.store

@@ -1,7 +1,7 @@
 // What the witness prints besides: the message, the answer buffer past it, and the records in use with their store.
-use libc::STDOUT_FILENO;
 use page::output;
 use record::Record;
+use std::io::{self, Write};
 use text::part;
 use view::{records, words};
 
@@ -14,10 +14,16 @@ fn put_answer(out: &mut [u8], answer: &[u8], length: usize) -> usize {
 }
 
 // Prints them.
-pub fn print_detail(rs: [Record; 16], store: &[u8], answer: &[u8], length: usize) {
+pub fn print_detail<W: Write>(
+    to: &mut W,
+    rs: [Record; 16],
+    store: &[u8],
+    answer: &[u8],
+    length: usize,
+) -> io::Result<()> {
     let mut page = [0u8; 32768];
     let out: &mut [u8] = &mut page;
     let p = put_answer(out, answer, length);
     let n = records::put_records(out, p, rs, store);
-    io::write_all(STDOUT_FILENO, part::part_of(out, 0, n));
+    to.write_all(part::part_of(out, 0, n))
 }

@@ -1,9 +1,10 @@
 // What is printed for a line.
-ghost use Rattle.desk.specs.Turned.{BehindAs};
+ghost use Rattle.std.specs.Prelude.{◌≡◌, IfOk, OnErr};
+ghost use Rattle.desk.specs.Turned.{BehindAs, table_behind};
 
 use crate::{detail, turn};
-use libc::STDOUT_FILENO;
 use record::Record;
+use std::io::{self, Write};
 use text::part;
 
 // Sets byte i to i modulo 251, so that a byte touched past the message shows.
@@ -15,15 +16,18 @@ fn mark(answer: &mut [u8]) {
     }
 }
 
-// Runs a line and prints what comes of it, and more where that is asked for; gives the records after it.
-pub fn run_line(
+// Runs a line and prints what comes of it, and more where that is asked for; gives the records after it. Where that cannot be printed the line
+// is run all the same.
+pub fn run_line<W: Write>(
+    to: &mut W,
     rs: [Record; 16],
     store: &mut [u8],
     line: &[u8],
     nth: u64,
     more: bool,
-) -> [Record; 16]
-    ensures { BehindAs rs store.old line.now result store.new }
+) -> io::Result<[Record; 16]>
+    ensures ok { IfOk result (λ after. BehindAs rs store.old line.now after store.new) }
+    ensures err { OnErr result (store.new ≡ (table_behind (record { records = rs; store = store.old }) line.now).store) }
 {
     let mut room = [0u8; 4608];
     let answer: &mut [u8] = &mut room;
@@ -31,10 +35,10 @@ pub fn run_line(
     let mut page = [0u8; 103];
     let out: &mut [u8] = &mut page;
     let t = turn::line_turn(out, nth, rs, store, answer, line, more);
-    io::write_all(STDOUT_FILENO, part::part_of(out, 0, t.end));
+    to.write_all(part::part_of(out, 0, t.end))?;
     let table = t.table;
     if more {
-        detail::print_detail(table, store, answer, t.length);
+        detail::print_detail(to, table, store, answer, t.length)?;
     }
-    table
+    Ok(table)
 }

@@ -1,15 +1,16 @@
 // The bytes of the input, in chunks of any length: as much of a line is held as shows that it is too long, and LF runs it.
-ghost use Rattle.std.specs.Prelude.{◌≡◌, List, ℕ, ◌≤◌, length};
+ghost use Rattle.std.specs.Prelude.{◌≡◌, true, List, ℕ, ◌≤◌, length, IfOk, OnErr};
 ghost use Rattle.desk.specs.Reading.{begun, hold_on, next_number, line_on, read_on};
-ghost use Rattle.desk.specs.ReadTo.{reading_of, ReadTo, piece_on};
+ghost use Rattle.desk.specs.ReadTo.{reading_of, ReadTo, RunIn, piece_on};
 
 use crate::printed;
 use page::lines;
 use record::Record;
+use std::io::{self, Write};
 use text::part;
 
 // How far the input is read: how many bytes of a line are held, the line's number, and the records before it.
-#[derive(Drop)]
+#[derive(Clone, Copy)]
 pub struct Progress {
     pub held: usize,
     pub nth: u64,
@@ -54,60 +55,74 @@ fn next_number(n: u64) -> u64
 }
 
 // The line that is held is run, and the next begins.
-fn end_line(line: &[u8], store: &mut [u8], progress: Progress, more: bool) -> Progress
-    ensures { ReadTo (line_on (reading_of line.now progress store.old)) line.now result store.new }
+fn end_line<W: Write>(
+    to: &mut W,
+    line: &[u8],
+    store: &mut [u8],
+    progress: Progress,
+    more: bool,
+) -> io::Result<Progress>
+    ensures ok { IfOk result (λ after.
+        ReadTo (line_on (reading_of line.now progress store.old)) line.now after store.new) }
+    ensures err { OnErr result (store.new ≡ (line_on (reading_of line.now progress store.old)).table.store) }
 {
     let n = progress.held;
     let nth = progress.nth;
     let rs = progress.table;
-    let table = printed::run_line(rs, store, part::part_of(line, 0, n), nth, more);
-    Progress {
+    let table = printed::run_line(to, rs, store, part::part_of(line, 0, n), nth, more)?;
+    Ok(Progress {
         held: 0,
         nth: next_number(nth),
         table,
-    }
+    })
 }
 
-// A piece of a line; where that ends the line, it is run.
-fn take(
+// A piece of a line; where that ends the line, it is run. Only there can it fail.
+fn take<W: Write>(
+    to: &mut W,
     line: &mut [u8],
     store: &mut [u8],
     progress: Progress,
     bs: &[u8],
     ended: bool,
     more: bool,
-) -> Progress
+) -> io::Result<Progress>
     requires { (length line.old ≡ 8211) × (progress.held ≤ 8211) }
-    ensures { ReadTo (piece_on (reading_of line.old progress store.old) bs.now ended)
-        line.new result store.new }
+    ensures ok { IfOk result (λ after.
+        ReadTo (piece_on (reading_of line.old progress store.old) bs.now ended) line.new after store.new) }
+    ensures err { OnErr result
+        ((ended ≡ true) × (store.new ≡ (piece_on (reading_of line.old progress store.old) bs.now ended).table.store)) }
 {
     let p = hold(line, progress, bs);
     if ended {
-        return end_line(line, store, p, more);
+        return end_line(to, line, store, p, more);
     }
-    p
+    Ok(p)
 }
 
-// A chunk of the input.
-pub fn take_all(
+// A chunk of the input. It fails only where a line cannot be printed, and is then run up to the end of that line.
+pub fn take_all<W: Write>(
+    to: &mut W,
     line: &mut [u8],
     store: &mut [u8],
     progress: Progress,
     chunk: &[u8],
     more: bool,
-) -> Progress
+) -> io::Result<Progress>
     requires { (length line.old ≡ 8211) × (progress.held ≤ 8211) }
-    ensures { ReadTo (read_on (reading_of line.old progress store.old) chunk.now)
-        line.new result store.new }
+    ensures ok { IfOk result (λ after.
+        ReadTo (read_on (reading_of line.old progress store.old) chunk.now) line.new after store.new) }
+    ensures err { OnErr result
+        (RunIn (reading_of line.old progress store.old) chunk.now store.new) }
 {
     let mut p = progress;
     let mut at = 0;
     while at < chunk.len() {
         let piece = lines::piece_at(chunk, at);
         let bs = part::part_of(chunk, at, piece.end);
-        let next = take(line, store, p, bs, piece.end < piece.next, more);
+        let next = take(to, line, store, p, bs, piece.end < piece.next, more)?;
         p = next;
         at = piece.next;
     }
-    p
+    Ok(p)
 }

@@ -9,7 +9,7 @@ use frames::{frame, hex};
 use record::Record;
 
 // What came of a line: the records after it, what is shown of it, and the length of the message.
-#[derive(Drop)]
+#[derive(Clone, Copy)]
 pub struct Step {
     pub table: [Record; 16],
     pub shown: Shown,

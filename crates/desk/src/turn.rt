@@ -7,7 +7,7 @@ use frames::shown;
 use record::Record;
 
 // The records after a line, the length of the message, and where what is printed ends.
-#[derive(Drop)]
+#[derive(Clone, Copy)]
 pub struct Turn {
     pub table: [Record; 16],
     pub length: usize,

@@ -1,8 +1,10 @@
 // A server's code at its smallest: open the table, add an address, handle a request, send the answer. Every result is looked at.
-use libc::{STDERR_FILENO, STDOUT_FILENO};
+#![tactic(auto)]
+
+use std::io;
 use text::part::part_of;
 
-fn main() {
+fn main(rt: HostRuntime) -> io::Result<()> {
     let store: &mut [u8] = &mut [0u8; 65536];
     let answer: &mut [u8] = &mut [0u8; 4608];
     let request =
@@ -14,7 +16,8 @@ fn main() {
     let ran = windgusset::handle_sixteen(records, store, 100, 1, request, answer);
     let message = part_of(answer, 0, ran.handled.length);
     let done = opened.result == 0 && added.result == 0 && message.len() > 0;
-    if !done || !io::write_all(STDOUT_FILENO, message) {
-        io::write_all(STDERR_FILENO, b"no answer was written\n");
+    if !done || rt.write_all(message).is_err() {
+        eprintln!(rt; "no answer was written")?;
     }
+    Ok(())
 }

@@ -5,9 +5,9 @@ use Prim.Native.Nat.{ℕ}
 use Rattle.record.specs.declared.Record.{Record}
 use Rattle.table.specs.declared.Handled.{Handled}
 use Rattle.table.specs.declared.State.{State}
-use Rattle.windgusset.specs.Contracts.{HandledAs, StateAs}
+use Rattle.windgusset.specs.Ensured.{HandledAs, StateAs}
 use Rattle.exported.specs.Numbers.{handled_numbers, state_numbers}
-use Rattle.exported.specs.Contracts.{replied, RepliedAs, ShownAs}
+use Rattle.exported.specs.Ensured.{replied, RepliedAs, ShownAs}
 use Rattle.exported.specs.declared.numbers.HandledNumbers.{HandledNumbers}
 use Rattle.exported.specs.declared.numbers.StateNumbers.{StateNumbers}
 

@@ -3,7 +3,7 @@ use mathlib.Core.Path.{◌≡◌, sym, ◌∙◌}
 use mathlib.Core.List.{List}
 use Prim.Native.Nat.{ℕ}
 use Rattle.record.specs.declared.Record.{Record}
-use Rattle.exported.specs.Contracts.{Replied, RepliedAs, ShownAs}
+use Rattle.exported.specs.Ensured.{Replied, RepliedAs, ShownAs}
 use Rattle.exported.specs.declared.numbers.HandledNumbers.{HandledNumbers}
 use Rattle.exported.specs.declared.numbers.StateNumbers.{StateNumbers}
 

@@ -1,15 +1,16 @@
-// The part for C and Rust to link: the public functions under names with a prefix, their answers in the paper's numbers.
+// The public functions as C has them: under names with a prefix, their answers in the paper's numbers. `exported_c` exports them.
+#![tactic(auto)]
+
 pub mod numbers;
 
-ghost use Rattle.windgusset.specs.Contracts.{OpenedAs, AddedAs};
-ghost use Rattle.exported.specs.Contracts.{RepliedAs, ShownAs};
+ghost use Rattle.windgusset.specs.Ensured.{OpenedAs, AddedAs};
+ghost use Rattle.exported.specs.Ensured.{RepliedAs, ShownAs};
 
 use numbers::{HandledNumbers, StateNumbers};
 use record::Record;
 
 // All records emptied and the store zeroed.
-#[unsafe(no_mangle)]
-pub extern "C" fn windgusset_open(records: &mut [Record], store: &mut [u8]) -> u8
+pub fn windgusset_open(records: &mut [Record], store: &mut [u8]) -> u8
     ensures { OpenedAs records.old store.old
         result records.new store.new }
 {
@@ -17,8 +18,7 @@ pub extern "C" fn windgusset_open(records: &mut [Record], store: &mut [u8]) -> u
 }
 
 // An address added.
-#[unsafe(no_mangle)]
-pub extern "C" fn windgusset_add(
+pub fn windgusset_add(
     records: &mut [Record],
     store: &mut [u8],
     address: &[u8],
@@ -32,8 +32,7 @@ pub extern "C" fn windgusset_add(
 }
 
 // One request handled.
-#[unsafe(no_mangle)]
-pub extern "C" fn windgusset_handle(
+pub fn windgusset_handle(
     records: &mut [Record],
     store: &mut [u8],
     clock: u64,
@@ -49,8 +48,7 @@ pub extern "C" fn windgusset_handle(
 }
 
 // State read.
-#[unsafe(no_mangle)]
-pub extern "C" fn windgusset_read(
+pub fn windgusset_read(
     records: &[Record],
     store: &[u8],
     address: &[u8],

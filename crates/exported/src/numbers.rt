@@ -7,7 +7,7 @@ use table::{Handled, Shown, State};
 
 // A handled request: the message's length, the seconds granted or those of its field, the tag given, the status, the result.
 #[repr(C)]
-#[derive(Drop)]
+#[derive(Clone, Copy)]
 pub struct HandledNumbers {
     pub length: usize,
     pub seconds: u64,
@@ -18,7 +18,7 @@ pub struct HandledNumbers {
 
 // State that was read: where in the store what is shown begins, its length, which of the three is shown, the result.
 #[repr(C)]
-#[derive(Drop)]
+#[derive(Clone, Copy)]
 pub struct StateNumbers {
     pub position: usize,
     pub length: usize,

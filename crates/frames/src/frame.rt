@@ -6,7 +6,7 @@ ghost use Rattle.frames.specs.Asked.{frame_with};
 
 // What is asked for: to add an address with its start and spent, or to handle a request at a clock. The address or the request is what
 // follows the first nine bytes.
-#[derive(Drop)]
+#[derive(Clone, Copy)]
 pub enum Asked {
     Adds(u32, u32),
     Handles(u64),

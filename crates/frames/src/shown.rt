@@ -11,7 +11,7 @@ use table::State;
 
 // What came of a line: the result of adding, the outcome of a request, the state that was read with the length of the default body, or that
 // it was not so built.
-#[derive(Drop)]
+#[derive(Clone, Copy)]
 pub enum Shown {
     Added(u8),
     Answered(Outcome),

@@ -6,7 +6,7 @@ use crate::frame;
 use text::runs;
 
 // State at a clock, with where the length of the package stands and where the default body begins; or the frame is another.
-#[derive(Drop)]
+#[derive(Clone, Copy)]
 pub enum Wanted {
     State(u64, usize, usize),
     Other,

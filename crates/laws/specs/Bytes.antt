@@ -1,7 +1,6 @@
 -- A text as its bytes, so that definitions and examples can be read.
 use Rattle.std.specs.Prelude.{ℕ, List, [], ◌∷◌}
 use Prim.Native.String.{String}
-use Prim.Native.String
 use Prim.Native.Char.{code}
 
 -- the bytes of a text

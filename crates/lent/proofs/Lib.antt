@@ -1,4 +1,2 @@
-pub mod Rec
-pub mod LookRow
 pub mod SixteenLaws
 pub mod LookLaws

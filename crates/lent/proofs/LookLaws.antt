@@ -4,13 +4,14 @@ use mathlib.Core.Bool.{Bool, true, false, ◌&&◌, not}
 use mathlib.Core.List.{List, [], ◌∷◌, map}
 use Prim.Native.Nat.{ℕ, zero, suc, ◌≤◌}
 use lib.Dec.{eqb}
-use lib.ListN.{length, take, length-map}
+use lib.ListN.{length, take}
 use mir.Val.{Val}
 use borrow.Author.Tests.{eqb-true, eq-eqb}
-use denote.Shadow.{shadow}
+use denote.Array.{Array, each}
 use denote.Laws.{Is}
-use denote.Array.{each}
-use denote.Struct.Laws as LL
+use denote.Shadow.{shadow}
+use denote.Struct.Declared.{row}
+use denote.Struct.Laws.{owed}
 use Rattle.laws.specs.Choose.{pick}
 use Rattle.laws.specs.Lists.{every, pairwise, those, place_of}
 use Rattle.laws.proofs.Tests.{and_left, and_right, and_both, every_head, every_tail, every_cons, every_those}
@@ -21,11 +22,10 @@ use Rattle.record.specs.declared.Record.{Record}
 use Rattle.record.proofs.AddressLaws.{held_same, sound_used}
 use Rattle.record.proofs.WalkLaws.{every_both}
 use Rattle.lent.specs.Look.{look_of, looks_of, looks_differ, looks_sound, is_look_for}
+use Rattle.lent.specs.contracts.look.Look.{the_type}
 use Rattle.lent.specs.declared.look.Look.{Look}
-use Rattle.lent.specs.contracts.look.Look as T
-use Rattle.lent.proofs.look.Look.TheLaws as T'
+use Rattle.lent.proofs.look.Look.TheLaws.{the_laws}
 use Rattle.lent.proofs.SixteenLaws.{take_sixteen}
-use Rattle.lent.proofs.LookRow.{L, LS}
 
 module _ {A : Type 0} where
   -- a test that holds at every element holds at those in front
@@ -99,21 +99,24 @@ unused_looks rs = place_map look_of (λ l. not l.used) rs
 abbrev pub is_long : Look → Bool
 is_long l = eqb (length l.address) 64
 
-each_long : (ls : List Look) (us : List Val) → shadow (each Look L.own ls us) → every is_long ls ≡ true
+-- what the type of an array of looks says of each of them: its address has them
+each_long : (ls : List Look) (us : List Val) → shadow (each Look (row the_type).own_val ls us) → every is_long ls ≡ true
 unfolding every
 each_long [] us s = refl
 each_long (l ∷ ls) [] s = absurd s
 each_long (l ∷ ls) (u ∷ us) s =
-    let bytes = (LL.owed T.the_type T'.the_laws l (u ∷ []) s.0).1.1.0 in
-    every_cons is_long l ls (eq-eqb (length l.address) 64 (sym (length-map l.address (λ b. b)) ∙ bytes.1.0.1)) (each_long ls us s.1)
+    let bytes = (owed the_type the_laws l (u ∷ []) s.0).1.1.0 in
+    every_cons is_long l ls (eq-eqb (length l.address) 64 bytes.1.0.1) (each_long ls us s.1)
 
 -- every look of an array has
-pub looks_long : (ls : List Look) (v : Val) → Is LS ls (v ∷ []) → every is_long ls ≡ true
+pub looks_long : (ls : List Look) (v : Val) → Is (Array (row the_type) 16) ls (v ∷ []) → every is_long ls ≡ true
 looks_long ls v g = each_long ls g.0 g.1.1
 
--- and so has every one in front
-pub front_long : (rs : List Record) (v : Val) → length rs ≤ 16 → Is LS (looks_of rs) (v ∷ []) → every is_long (map look_of rs) ≡ true
-front_long rs v h g = rw (← front_looks rs h) (every_take is_long (length rs) (looks_of rs) (looks_long (looks_of rs) v g))
+-- and so has every one in front, where they are the looks at records
+pub front_long : (rs : List Record) (ls : List Look) (v : Val) → length rs ≤ 16 → ls ≡ looks_of rs → Is (Array (row the_type) 16) ls (v ∷ [])
+    → every is_long (map look_of rs) ≡ true
+front_long rs ls v h e g =
+    rw (← front_looks rs h) (every_take is_long (length rs) (looks_of rs) (rw e at (looks_long ls v g)))
 
 -- a record that holds an address in 64 bytes
 abbrev holds : Record → Bool

@@ -1,4 +1,6 @@
 // The lent slice of records: one taken out by value, sixteen looked at, one put back. These are the functions that walk it.
+#![tactic(auto)]
+
 pub mod look;
 
 ghost use Rattle.std.specs.Prelude.{◌≡◌, set};

@@ -6,7 +6,7 @@ ghost use Rattle.lent.specs.Look.{look_of};
 use record::Record;
 
 // Whether a record is in use, whether it is sound by itself, and the 64 bytes of its address.
-#[derive(Drop)]
+#[derive(Clone, Copy)]
 pub struct Look {
     pub used: bool,
     pub sound: bool,

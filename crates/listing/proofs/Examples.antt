@@ -1,7 +1,6 @@
 -- Worked examples: one refusal of each kind that the eleven lines do not show, and reading state. Each by computation.
 use mathlib.Core.Path.{◌≡◌, refl}
 use Prim.Native.Nat.{ℕ}
-use mathlib.Core.Bool.{true}
 use mathlib.Core.List.{[], ◌∷◌, ◌++◌}
 use lib.ListN.{replicate}
 use Rattle.laws.specs.Bytes.{bytes}

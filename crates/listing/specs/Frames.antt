@@ -1,6 +1,6 @@
 -- The bench's input: lines of hexadecimal in either case, one frame a line.
 -- Rules 11.1 to 11.4 of docs/RULES.md.
-use Rattle.std.specs.Prelude.{ℕ, ◌+◌, ◌*◌, ◌%◌, Bool, true, false, ◌&&◌, not, List, [], ◌∷◌, eqb, ltb, leb, length, take, drop}
+use Rattle.std.specs.Prelude.{ℕ, ◌+◌, ◌*◌, ◌%◌, Bool, ◌&&◌, List, [], ◌∷◌, eqb, ltb, leb, length, drop}
 use Rattle.laws.specs.Choose.{pick}
 use Rattle.laws.specs.Lists.{every, byte_at, part}
 use Rattle.text.specs.Digits.{hex_value}

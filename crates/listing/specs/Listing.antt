@@ -9,9 +9,8 @@ use Rattle.response.specs.declared.Field.TheVariants.{Nothing, Allow, AllowEvent
 use Rattle.response.specs.declared.Outcome.{Outcome}
 use Rattle.response.specs.declared.Outcome.TheVariants.{Silent, Refused, Granted}
 use Rattle.table.specs.Table.{Table}
-use Rattle.table.specs.Open.{After}
 use Rattle.table.specs.Add.{added}
-use Rattle.table.specs.Handle.{Done, done}
+use Rattle.table.specs.Handle.{done}
 use Rattle.listing.specs.Lent.{open_table, lent_buffer}
 use Rattle.listing.specs.Frames.{Frame, adds, handles, bad, lines_of, line_frame}
 

@@ -1,1 +1,3 @@
 // The bench: from the bytes of its input to the bytes of its listing. The definitions stand in specs/.
+
+#![tactic(auto)]

@@ -6,14 +6,14 @@ use record::Record;
 use view::words;
 
 // The life that is run: whether one has begun, and its record.
-#[derive(Drop)]
+#[derive(Clone, Copy)]
 pub struct Life {
     pub begun: bool,
     pub record: Record,
 }
 
 // How far the page is filled, and the life after a line.
-#[derive(Drop)]
+#[derive(Clone, Copy)]
 pub struct Turn {
     pub at: usize,
     pub life: Life,

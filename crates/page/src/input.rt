@@ -3,7 +3,7 @@ ghost use Rattle.std.specs.Prelude.{◌≡◌, ◌≤◌, length};
 ghost use Rattle.text.specs.Digits.{hex_value};
 
 // What a line of hex digits says: so many bytes, or that it is not so built.
-#[derive(Drop)]
+#[derive(Clone, Copy)]
 pub enum Decoded {
     Bytes(usize),
     Bad,
@@ -77,7 +77,7 @@ pub fn decode(line: &[u8], most: usize, out: &mut [u8]) -> Decoded {
 }
 
 // How far a line has been read: how many of its bytes are held, and its number.
-#[derive(Drop)]
+#[derive(Clone, Copy)]
 pub struct Held {
     pub length: usize,
     pub nth: u64,

@@ -19,7 +19,7 @@ pub fn place_of(s: &[u8], at: usize, b: u8) -> usize
 }
 
 // A piece of a line in a chunk: where it ends, and where the piece behind it begins; they differ by the LF of a line that ends there.
-#[derive(Drop)]
+#[derive(Clone, Copy)]
 pub struct Piece {
     pub end: usize,
     pub next: usize,

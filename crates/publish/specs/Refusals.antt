@@ -10,12 +10,11 @@ use Rattle.request.specs.Names.{Event, Expires}
 use Rattle.request.specs.Head.{method_of, absent, is_readable}
 use Rattle.request.specs.declared.Head.{Head}
 use Rattle.request.specs.Fields.{expires, is_bad_request, body_length, event_text, has_type, has_match, match_text, is_bad_match}
-use Rattle.record.specs.Packages.{Package, package_at, package_named, is_listed}
+use Rattle.record.specs.Packages.{package_at, package_named, is_listed}
 use Rattle.record.specs.Places.{live, least_end, smaller, matching}
 use Rattle.record.specs.Sound.{latest_clock}
 use Rattle.success.specs.After.{given_tag}
 use Rattle.record.specs.declared.Record.{Record}
-use Rattle.response.specs.declared.Field.{Field}
 use Rattle.response.specs.declared.Field.TheVariants.{Nothing, Allow, AllowEvents, MinExpires, Accept, RetryAfter}
 use Rattle.response.specs.declared.Outcome.{Outcome}
 use Rattle.response.specs.declared.Outcome.TheVariants.{Silent, Refused, Granted}

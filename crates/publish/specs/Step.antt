@@ -1,6 +1,6 @@
 -- One request at one record and its part of the store: what comes back, the message due, and record and part after it.
 -- Rules 7.21, 7.24 of docs/RULES.md.
-use Rattle.std.specs.Prelude.{ℕ, Bool, List, []}
+use Rattle.std.specs.Prelude.{ℕ, List, []}
 use Rattle.laws.specs.Choose.{pick}
 use Rattle.request.specs.Fields.{has_match, body, body_length}
 use Rattle.request.specs.declared.Head.{Head}
@@ -10,7 +10,6 @@ use Rattle.success.specs.declared.Success.{Success}
 use Rattle.response.specs.Outcomes.{is_silent, is_success}
 use Rattle.publish.specs.Refusals.{Case, event_of, granted, presented, outcome_of}
 use Rattle.response.specs.Message.{message}
-use Rattle.response.specs.declared.Outcome.{Outcome}
 
 -- the success that a request is at a record, where no refusal applies
 unfoldable pub success_for : Record → ℕ → List ℕ → Head → Success

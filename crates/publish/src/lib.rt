@@ -1,4 +1,6 @@
 // One request for one address: what it asks for, the refusals in their order, and a success.
+#![tactic(auto)]
+
 pub mod asking;
 pub mod refusals;
 pub mod times;
@@ -7,7 +9,7 @@ use request::ToValue;
 use response::Outcome;
 
 // What a list of refusals comes to: the first that applies, or none.
-#[derive(Drop)]
+#[derive(Clone, Copy)]
 pub enum Refusal {
     First(Outcome),
     NoneApplies,
@@ -16,7 +18,7 @@ pub enum Refusal {
 // What a request asks of a record at a clock: the number of its package (3 where it is not listed), the time requested and the time
 // granted, the slot that it presents (8 where it presents none, or none that is live), the length of its body, and what its To says
 // of its tag.
-#[derive(Drop)]
+#[derive(Clone, Copy)]
 pub struct Asked {
     pub event: u8,
     pub requested: u32,

@@ -44,6 +44,7 @@ pub fn is_bad_size(records: usize, store: usize) -> bool
 }
 
 // Before anything is read: the sizes of what is lent, and the clock.
+#[tactic(auto, unfolding(crate::specs::Refusals::size_rows, crate::specs::Refusal::refusal_in))]
 pub fn sizes_refusal(
     buffer: usize,
     records: usize,
@@ -133,6 +134,7 @@ pub fn address_refusal(a: Asked, known: bool, r: Record, clock: u64, s: &[u8], h
 }
 
 // Whether the time requested is above 0 and below the least.
+#[tactic(auto, using(crate::proofs::RefusalLaws::none_above, crate::proofs::RefusalLaws::some_above))]
 fn is_too_brief(event: u8, requested: u32) -> bool
     ensures { result ≡ (ltb 0 requested && ltb requested (package_at event).least) }
 {

@@ -1,8 +1,10 @@
 // Reads requests, one a line in hexadecimal, and prints what each says: the reads listing.
-use libc::{STDIN_FILENO, STDOUT_FILENO};
+#![tactic(auto)]
+
 use page::input::{Decoded, Held};
 use page::{input, output};
 use request::{Head, ToValue, fields, names};
+use std::io::{self, ErrorKind, Read, Write};
 use text::number::Num;
 
 // Puts a space and a text in hex.
@@ -130,7 +132,7 @@ fn put_request(out: &mut [u8], at: usize, s: &[u8]) -> usize {
 }
 
 // Prints what a line says.
-fn print_line(line: &[u8], nth: u64) {
+fn print_line<W: Write>(to: &mut W, line: &[u8], nth: u64) -> io::Result<()> {
     let mut page = [0u8; 65536];
     let out: &mut [u8] = &mut page;
     let mut bytes = [0u8; 4096];
@@ -141,45 +143,50 @@ fn print_line(line: &[u8], nth: u64) {
         Decoded::Bad => output::bytes(out, at, b" bad"),
     };
     let last = output::bytes(out, end, b"\n");
-    io::write_all(STDOUT_FILENO, input::held_part(out, last));
+    to.write_all(input::held_part(out, last))
 }
 
 // A byte more: at LF the line is printed.
-fn take(line: &mut [u8], held: Held, b: u8) -> Held {
+fn take<W: Write>(to: &mut W, line: &mut [u8], held: Held, b: u8) -> io::Result<Held> {
     if b == 10 {
-        print_line(input::held_part(line, held.length), held.nth);
-        return input::next_line(held);
+        print_line(to, input::held_part(line, held.length), held.nth)?;
+        return Ok(input::next_line(held));
     }
-    input::hold(line, held, b)
+    Ok(input::hold(line, held, b))
 }
 
 // Some bytes more.
-fn take_all(line: &mut [u8], held: Held, chunk: &[u8]) -> Held {
+fn take_all<W: Write>(to: &mut W, line: &mut [u8], held: Held, chunk: &[u8]) -> io::Result<Held> {
     let mut h = held;
     let mut i = 0;
     while i < chunk.len() {
-        h = take(line, h, chunk[i]);
+        h = take(to, line, h, chunk[i])?;
         i += 1;
     }
-    h
+    Ok(h)
 }
 
-fn main() {
-    let mut room = io::large_buffer();
+// Reads an input to its end, and prints its lines.
+fn run<R: Read, W: Write>(from: &mut R, to: &mut W) -> io::Result<()> {
+    let mut room = [0u8; 65536];
     let chunk: &mut [u8] = &mut room;
     let mut space = [0u8; 8193];
     let line: &mut [u8] = &mut space;
     let mut held = Held { length: 0, nth: 1 };
-    let mut turns = u64::MAX;
-    while turns > 0 {
-        let got = io::read_full(STDIN_FILENO, chunk);
-        if got == 0 {
-            break;
+    for _ in 0..u64::MAX {
+        match from.read(chunk) {
+            Ok(0) => break,
+            Ok(got) => held = take_all(to, line, held, input::held_part(chunk, got))?,
+            Err(e) if e.kind() == ErrorKind::Interrupted => {}
+            Err(e) => return Err(e),
         }
-        held = take_all(line, held, input::held_part(chunk, got));
-        turns -= 1;
     }
     if 0 < held.length {
-        print_line(input::held_part(line, held.length), held.nth);
+        print_line(to, input::held_part(line, held.length), held.nth)?;
     }
+    Ok(())
+}
+
+fn main(rt: HostRuntime) -> io::Result<()> {
+    run(&mut rt.stdin(), &mut rt.stdout())
 }

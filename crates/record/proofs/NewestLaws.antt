@@ -61,15 +61,25 @@ at_most_less a b ps h e = go (at_most a ps) refl
     go false k = k
 
 module _ (f : Place → Bool) (p : Place) (ps : List Place) where
+  -- a place of another kind is not among those
+  those_off : f p ≡ false → those f (p ∷ ps) ≡ those f ps
+  unfolding those
+  those_off e = rw e
+
+  -- and one of the kind is
+  those_on : f p ≡ true → those f (p ∷ ps) ≡ p ∷ those f ps
+  unfolding those
+  those_on e = rw e
+
   -- a place of another kind does not count
   highest_skip : f p ≡ false → highest_at f (p ∷ ps) ≡ suc (highest_at f ps)
-  unfolding highest_at place_of those
-  highest_skip e = rw e
+  unfolding highest_at place_of
+  highest_skip e = ap (λ (ts : List Place). place_of (is_highest f ts) (p ∷ ps)) (those_off e) ∙ rw e
 
   -- a place with a number that none behind it exceeds is found
   highest_here : f p ≡ true → at_most p.slot.edition (those f ps) ≡ true → highest_at f (p ∷ ps) ≡ 0
-  unfolding highest_at place_of those every
-  highest_here e h = rw (e, le-leb p.slot.edition p.slot.edition (le_refl _), h)
+  unfolding highest_at place_of every
+  highest_here e h = rw (those_on e, e, le-leb p.slot.edition p.slot.edition (le_refl _), h)
 
   -- beside a higher one a place does not count
   highest_same : at_most p.slot.edition (those f ps) ≡ false → (q : Place) → is_highest f (p ∷ those f ps) q ≡ is_highest f (those f ps) q
@@ -86,9 +96,10 @@ module _ (f : Place → Bool) (p : Place) (ps : List Place) where
 
   -- a place with a higher one behind it is passed
   highest_on : f p ≡ true → at_most p.slot.edition (those f ps) ≡ false → highest_at f (p ∷ ps) ≡ suc (highest_at f ps)
-  unfolding highest_at place_of those every
+  unfolding highest_at place_of every
   highest_on e h =
-      rw (e, le-leb p.slot.edition p.slot.edition (le_refl _), h) (ap suc (place_agree _ _ ps (highest_same h)))
+      ap (λ (ts : List Place). place_of (is_highest f ts) (p ∷ ps)) (those_on e)
+      ∙ rw (e, le-leb p.slot.edition p.slot.edition (le_refl _), h) (ap suc (place_agree _ _ ps (highest_same h)))
 
   -- the place reached becomes the best
   best_here : (i : ℕ) → (i ≡ 8 → ⊥) → f p ≡ true

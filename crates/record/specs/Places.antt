@@ -1,6 +1,6 @@
 -- A record's eight places: each slot with whether the map has it occupied.
 -- Rules 4.1, 4.2, 4.5, 4.7, 4.8, 7.13, 7.19, 7.26, 7.27, 10.4 of docs/RULES.md.
-use Rattle.std.specs.Prelude.{ℕ, ◌+◌, ◌*◌, ◌/◌, ◌%◌, Bool, true, false, ◌&&◌, not, List, [], ◌∷◌, map, eqb, ltb, leb, length, replicate}
+use Rattle.std.specs.Prelude.{ℕ, ◌+◌, ◌*◌, ◌/◌, ◌%◌, Bool, false, ◌&&◌, not, List, [], ◌∷◌, eqb, ltb, leb, length, replicate}
 use Rattle.laws.specs.Choose.{pick}
 use Rattle.laws.specs.Lists.{those, place_of, every}
 use Rattle.tag.specs.Written.{is_tag_text}

@@ -4,7 +4,7 @@ use Rattle.std.specs.Prelude.{ℕ, ◌+◌, Bool, ◌&&◌, ◌||◌, not, List,
 use Rattle.laws.specs.Lists.{every, pairwise, those}
 use Rattle.text.specs.Class.{from_to}
 use Rattle.tag.specs.Given.{is_given}
-use Rattle.record.specs.Packages.{Package, package_at, is_listed}
+use Rattle.record.specs.Packages.{package_at, is_listed}
 use Rattle.record.specs.Places.{is_in_use, occupied}
 use Rattle.record.specs.Address.{address_of, has_address, same_address}
 use Rattle.record.specs.declared.Slot.{Slot}

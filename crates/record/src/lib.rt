@@ -1,4 +1,6 @@
 // One resource record: an address with its eight slots, and when it is sound.
+#![tactic(auto)]
+
 pub mod address;
 pub mod map;
 pub mod packages;
@@ -7,7 +9,7 @@ pub mod sound;
 
 // A slot: package, tag, end clock, body length, and the edition of its body (its body number): the success number that last set it.
 #[repr(C)]
-#[derive(Drop)]
+#[derive(Clone, Copy)]
 pub struct Slot {
     pub event: u8,
     pub tag: u32,
@@ -18,7 +20,7 @@ pub struct Slot {
 
 // A record: whether it is in use (1, or 0 where it is not), address, start, count of tags spent, clock of the latest success, map of occupied slots.
 #[repr(C)]
-#[derive(Drop)]
+#[derive(Clone, Copy)]
 pub struct Record {
     pub used: u8,
     pub address: [u8; 64],

@@ -98,7 +98,7 @@ pub fn least_end(r: Record, clock: u64) -> u64
 }
 
 // The newest publication so far: its slot, 8 where there is none, and its body number.
-#[derive(Drop)]
+#[derive(Clone, Copy)]
 struct Best {
     slot: usize,
     edition: u32,

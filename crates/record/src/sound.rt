@@ -128,6 +128,7 @@ pub fn slots_differ(r: Record) -> bool
 }
 
 // Whether a record by itself is sound; one that is not in use is.
+#[tactic(auto, using(crate::proofs::SoundLaws::unmarked_unsound))]
 pub fn is_sound(r: Record) -> bool
     ensures { result ≡ is_sound r }
 {

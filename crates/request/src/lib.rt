@@ -1,4 +1,6 @@
 // Reading a request: its first line, its header lines, the fields we read, and its body.
+#![tactic(auto)]
+
 pub mod fields;
 pub mod first_line;
 pub mod header_line;
@@ -7,7 +9,7 @@ pub mod reading;
 pub mod to;
 
 // The first line: where its method and its Request-URI end, and where the next line begins.
-#[derive(Drop)]
+#[derive(Clone, Copy)]
 pub enum FirstLine {
     Read {
         method: usize,
@@ -18,7 +20,7 @@ pub enum FirstLine {
 }
 
 // A header line: where it starts, where its name ends, where its colon stands, and where its value ends.
-#[derive(Drop)]
+#[derive(Clone, Copy)]
 pub struct Line {
     pub start: usize,
     pub name: usize,
@@ -27,14 +29,14 @@ pub struct Line {
 }
 
 // What stands where a header line is looked for.
-#[derive(Drop)]
+#[derive(Clone, Copy)]
 pub enum HeaderLine {
     Header(Line),
     NoHeader,
 }
 
 // Where a byte stands to quotes: outside, in them, or in them and covered by a backslash.
-#[derive(Drop)]
+#[derive(Clone, Copy)]
 pub enum Quote {
     Outside,
     Inside,
@@ -42,7 +44,7 @@ pub enum Quote {
 }
 
 // What a To value says of its tag.
-#[derive(Drop)]
+#[derive(Clone, Copy)]
 pub enum ToValue {
     Tagged,
     Untagged,
@@ -50,7 +52,7 @@ pub enum ToValue {
 }
 
 // A name that we read: how often it stands (0, 1, or 2 for more than once), and its first line (all zero where there is none).
-#[derive(Drop)]
+#[derive(Clone, Copy)]
 pub struct Seen {
     pub times: u8,
     pub line: Line,
@@ -59,7 +61,7 @@ pub struct Seen {
 // What the first line and the header lines say: whether they are built as they must be, where the method and the
 // Request-URI end, where what follows the empty line begins, and the names seen:
 // ours by their numbers, and behind them any other.
-#[derive(Drop)]
+#[derive(Clone, Copy)]
 pub struct Head {
     pub built: bool,
     pub method: usize,

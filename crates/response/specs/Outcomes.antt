@@ -5,7 +5,7 @@ use Rattle.laws.specs.Choose.{pick}
 use Rattle.laws.specs.Bytes.{bytes}
 use Rattle.text.specs.Digits.{decimal_of}
 use Rattle.tag.specs.Written.{tag_text}
-use Rattle.record.specs.Packages.{Package, package_at}
+use Rattle.record.specs.Packages.{package_at}
 use Rattle.response.specs.declared.Field.{Field}
 use Rattle.response.specs.declared.Field.TheVariants.{Nothing, Allow, AllowEvents, MinExpires, Accept, RetryAfter}
 use Rattle.response.specs.declared.Outcome.{Outcome}

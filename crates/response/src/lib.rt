@@ -1,11 +1,13 @@
 // What comes back for a request, and the message that says it.
+#![tactic(auto)]
+
 pub mod echoed;
 pub mod message;
 pub mod own_fields;
 pub mod status_line;
 
 // The field that a refusal's message carries: none, or one of the table's with its value.
-#[derive(Drop)]
+#[derive(Clone, Copy)]
 pub enum Field {
     Nothing,
     Allow,
@@ -16,7 +18,7 @@ pub enum Field {
 }
 
 // What comes back: a result from 1 up without a message, a refusal with its status and field, or 200 with tag and time granted.
-#[derive(Drop)]
+#[derive(Clone, Copy)]
 pub enum Outcome {
     Silent(u8),
     Refused(u16, Field),

@@ -35,7 +35,7 @@ comes : (n : ℕ) (there es : List Entry) → Ready n there → every has_number
 unfolding add_all taken_from accepted_from
 comes n there [] ready k = record { table = refl; ready = ready; accepts = sym (append-nil there) }
 comes n there (e ∷ es) ready k =
-    let deep = comes n _ es (ready_more n there ready e (every_head has_numbers e es k)) (every_tail has_numbers e es k) in
+    let deep = comes n (pick (is_taken n there e) (there ++ (e ∷ [])) there) es (ready_more n there ready e (every_head has_numbers e es k)) (every_tail has_numbers e es k) in
     record {
       table = ap (add_all es) (table_with_lem n there ready e) ∙ deep.table;
       ready = deep.ready;

@@ -7,6 +7,7 @@ use Prim.Native.Nat.{ℕ}
 use Rattle.laws.specs.Choose.{pick}
 use Rattle.laws.specs.Lists.{those, empty}
 use Rattle.record.specs.declared.Record.{Record}
+use Rattle.publish.specs.Step.{own_after, part_afterwards}
 use Rattle.table.specs.Handle.{Input}
 use Rattle.table.specs.Run.{Exchange}
 use Rattle.runs.specs.Reach.{Moment}
@@ -66,7 +67,7 @@ each_front Q r bs holds (x ∷ xs) m =
 inputs_back : (r : Record) (bs : List ℕ) (xs : List Input) → map (λ x. x.input) (alone_from r bs xs).exchanges ≡ xs
 unfolding alone_from beginning answered
 inputs_back r bs [] = refl
-inputs_back r bs (x ∷ xs) = ap (λ l. x ∷ l) (inputs_back _ _ xs)
+inputs_back r bs (x ∷ xs) = ap (λ l. x ∷ l) (inputs_back (own_after (case_at true r x)) (part_afterwards (case_at true r x) bs) xs)
 
 -- so what comes back at a moment follows from the inputs before it
 pub each_next : (r : Record) (bs : List ℕ) (xs : List Input) (m : Moment (alone_from r bs xs).exchanges)

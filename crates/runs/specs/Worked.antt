@@ -1,5 +1,5 @@
 -- What the worked runs are stated with: junk that is lent, short requests, and both sides of C4 as tests.
-use Rattle.std.specs.Prelude.{ℕ, suc, Bool, true, false, ◌&&◌, not, List, [], ◌∷◌, ◌++◌, map, ltb, leb, replicate}
+use Rattle.std.specs.Prelude.{ℕ, suc, Bool, false, ◌&&◌, not, List, [], ◌∷◌, ◌++◌, map, ltb, leb, replicate}
 use Prim.Native.String.{String}
 use Rattle.laws.specs.Choose.{pick}
 use Rattle.laws.specs.Bytes.{bytes}

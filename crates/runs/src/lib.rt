@@ -3,3 +3,5 @@
 // was given and presented). proofs/Facts has what stands beside them, proofs/Cases a worked run.
 // C1 goes by Sent, Own and Lives, from the table of Adding and Begun; C2 by Elsewhere; C4 by SomePlace, Succeeds, Told and History; C5 by
 // Fresh. C3, C4 and C5 rest on C1: they are shown of one address alone.
+
+#![tactic(auto)]

@@ -10,7 +10,7 @@ use table::{Shown, State};
 
 // A refusal shows the empty front of the default.
 fn refused(res: u8) -> State
-    ensures* { λ r. ⌜ r ≡ record { result = res; shown = Front } ⌝ }
+    ensures { result ≡ record { result = res; shown = Front } }
 {
     State {
         result: res,

@@ -2,7 +2,7 @@
 use mathlib.Core.Path.{◌≡◌, refl, ◌∙◌, ap}
 use mathlib.Core.Bool.{Bool, true, false}
 use mathlib.Core.List.{List, [], ◌∷◌, map}
-use Prim.Native.Nat.{ℕ, suc, ◌*◌}
+use Prim.Native.Nat.{ℕ, suc, ◌*◌, ◌/◌}
 use native.Mathlib.Omega.{arith}
 use lib.Dec.{eqb}
 use lib.ListN.{length, drop, set, replicate, length-append, length-take, length-replicate, length-set, length-map}
@@ -39,7 +39,7 @@ cleared_length (p ∷ ps) bs =
 pub places_in_length : (m : ℕ) (ss : List Slot) → length (places_in m ss) ≡ length ss
 unfolding places_in
 places_in_length m [] = refl
-places_in_length m (s ∷ ss) = ap suc (places_in_length _ ss)
+places_in_length m (s ∷ ss) = ap suc (places_in_length (m / 2) ss)
 
 -- and as many slots as places
 pub slots_of_length : (ps : List Place) → length (slots_of ps) ≡ length ps

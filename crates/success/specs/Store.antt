@@ -1,6 +1,6 @@
 -- Where bodies lie in the store, and a record's part of it with everything outside live bodies zero.
 -- Rules 4.6, 8.6 of docs/RULES.md.
-use Rattle.std.specs.Prelude.{ℕ, ◌+◌, ◌*◌, Bool, List, [], ◌∷◌, ◌++◌, take, drop, replicate}
+use Rattle.std.specs.Prelude.{ℕ, ◌+◌, ◌*◌, List, [], ◌∷◌, ◌++◌, take, drop, replicate}
 use Rattle.laws.specs.Choose.{pick}
 use Rattle.laws.specs.Lists.{part, put_at}
 use Rattle.record.specs.Places.{Place}

@@ -1,11 +1,13 @@
 // What a success leaves of its record and of its 4,096 bytes of the store.
+#![tactic(auto)]
+
 pub mod after;
 pub mod freed;
 pub mod store;
 
 // What a success does: its clock and package, the slot matched (8 where no tag was presented), the time granted,
 // and the length of the body given (0 where there is none).
-#[derive(Drop)]
+#[derive(Clone, Copy)]
 pub struct Success {
     pub clock: u64,
     pub event: u8,

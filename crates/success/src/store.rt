@@ -20,6 +20,7 @@ fn zero_from(store: &mut [u8], at: usize, n: usize)
 }
 
 // How many bytes of its room a slot keeps, where its bit is the lowest of m: its body, and none where it is not occupied.
+#[tactic(auto, unfolding(record::specs::Places::smaller))]
 fn kept(m: u8, s: Slot) -> usize
     ensures { (result ≡ pick (eqb (m % 2) 1) (smaller s.length 512) 0) × (result ≤ 512) }
 {

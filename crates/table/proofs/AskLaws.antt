@@ -5,7 +5,6 @@ use mathlib.Core.List.{List}
 use Prim.Native.Nat.{ℕ, ◌+◌, ◌*◌, ◌<◌, ◌≤◌}
 use native.Mathlib.Omega.{arith}
 use lib.ListN.{length}
-use borrow.Author.Rules.{rules}
 use borrow.Author.Tests.{ltb-true}
 use Rattle.laws.proofs.Parts.{part_size}
 use Rattle.request.specs.Fields.{there, body_length, body}
@@ -14,7 +13,7 @@ use Rattle.request.proofs.FieldLaws.{body_there}
 use Rattle.success.specs.After.{written_slot}
 use Rattle.record.specs.declared.Record.{Record}
 use Rattle.success.specs.declared.Success.{Success}
-use Rattle.record.proofs.Held.{Held, held_slots}
+use Rattle.record.proofs.Held.{Held, held_slots, held_spent}
 use Rattle.success.proofs.StoreLaws.{freed_at_length}
 use Rattle.response.specs.Outcomes.{is_success}
 use Rattle.publish.specs.Refusals.{outcome_of}
@@ -38,10 +37,6 @@ success_asked r clock s h e d =
 pub body_size : (s : List ℕ) (h : Head) → length (body s h) ≡ body_length s h
 unfolding body there
 body_size s h = part_size s h.rest (h.rest + body_length s h) ∙ omega (arith, body_there s h)
-
--- the tags spent are a number of 32 bits
-held_spent : (r : Record) → Held r → r.spent < 4294967296
-held_spent r h = let x = h.1.1.1.1.1.0 in search rules
 
 module _ (b : Begun) (own : Record) (n store buffer clock : ℕ) (s : List ℕ)
     (e : is_success (outcome_of (case_with b own n store buffer clock s)) ≡ true) where

@@ -1,14 +1,19 @@
 -- The laws of looking for a place among the first n of a list: one step of the walk, and its end.
 use mathlib.Core.Path.{◌≡◌, ◌∙◌, ap}
-use mathlib.Core.Bool.{Bool, true, false}
+use mathlib.Core.Bool.{Bool, true, false, not}
 use mathlib.Core.List.{List, ◌∷◌}
 use Prim.Native.Nat.{ℕ, suc, ◌+◌, ◌<◌, ◌≤◌}
 use native.Mathlib.Numerals.{add-one}
 use native.Mathlib.Omega.{arith}
 use lib.ListN.{length, get_or, take, drop, length-take, drop_of_length-le}
 use lib.Seq.{drop-cons, get_or-take, length-take-le}
+use Rattle.lent.specs.declared.look.Look.{Look}
 use Rattle.laws.specs.Choose.{pick}
 use Rattle.laws.specs.Lists.{place_of}
+
+-- the test of a look: its record is not in use
+abbrev pub unused : Look → Bool
+unused l = not l.used
 
 module _ {A : Type 0} where
   -- where the first element from place i on stands, among the first n, at which the test holds; n where there is none

@@ -1,6 +1,6 @@
 -- Adding an address to a table.
 -- Rules 5.2 to 5.4, 7.24 of docs/RULES.md.
-use Rattle.std.specs.Prelude.{ℕ, Bool, true, not, List, [], ◌∷◌, ltb, eqb, length, replicate}
+use Rattle.std.specs.Prelude.{ℕ, not, List, [], ◌∷◌, ltb, eqb, length, replicate}
 use Rattle.laws.specs.Choose.{pick}
 use Rattle.laws.specs.First.{Row, row, first_of}
 use Rattle.laws.specs.Lists.{place_of}

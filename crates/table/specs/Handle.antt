@@ -1,6 +1,6 @@
 -- Handling one request.
 -- Rules 1.1, 7.21, 7.24, 8.8, 9.7 of docs/RULES.md.
-use Rattle.std.specs.Prelude.{ℕ, Bool, List, ◌++◌, length, drop}
+use Rattle.std.specs.Prelude.{ℕ, List, ◌++◌, length, drop}
 use Rattle.laws.specs.Choose.{pick}
 use Rattle.request.specs.Head.{head_of, uri_of}
 use Rattle.record.specs.Sound.{all_sound}

@@ -4,7 +4,7 @@ use Rattle.std.specs.Prelude.{ℕ, Bool, List, ltb, length, get_or, set}
 use Rattle.laws.specs.Lists.{place_of}
 use Rattle.record.specs.Places.{empty_record}
 use Rattle.record.specs.Address.{is_for}
-use Rattle.success.specs.Store.{part_of, with_part}
+use Rattle.success.specs.Store.{with_part}
 use Rattle.record.specs.declared.Record.{Record}
 use Rattle.publish.specs.Refusals.{is_bad_size}
 

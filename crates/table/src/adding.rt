@@ -11,7 +11,7 @@ use lent::look::Look;
 use record::Record;
 
 // What adding comes to: the result, the record that is kept, and its place (past the end where it is refused).
-#[derive(Drop)]
+#[derive(Clone, Copy)]
 pub struct Added {
     pub result: u8,
     pub index: usize,

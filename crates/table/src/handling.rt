@@ -21,7 +21,7 @@ use success::Success;
 
 // What is known of a request before its record is taken out: whether all records are sound, the place of its address (past the end
 // where it has none), and what its head says.
-#[derive(Drop)]
+#[derive(Clone, Copy)]
 pub struct Begun {
     pub sound: bool,
     pub place: usize,
@@ -29,7 +29,7 @@ pub struct Begun {
 }
 
 // What handling comes to: outcome and length, the record that is kept, and its place (past the end where the request is refused).
-#[derive(Drop)]
+#[derive(Clone, Copy)]
 pub struct Settled {
     pub handled: Handled,
     pub index: usize,

@@ -1,6 +1,8 @@
 // The lent records and store: opening, adding and handling a request, and what reading state comes back with. The definitions stand in
 // specs/; the code here is given the looks at the records and the one record that a call is for, by value, and what it keeps is put back
 // by the functions that walk the lent slice.
+#![tactic(auto)]
+
 pub mod adding;
 pub mod handling;
 pub mod looks;
@@ -9,14 +11,14 @@ pub mod opening;
 use response::Outcome;
 
 // What a handled request comes back with: its outcome, and the message's length (0 where there is none).
-#[derive(Drop)]
+#[derive(Clone, Copy)]
 pub struct Handled {
     pub outcome: Outcome,
     pub length: usize,
 }
 
 // What reading state shows: a part of the store, the whole default body, or the default's empty front.
-#[derive(Drop)]
+#[derive(Clone, Copy)]
 pub enum Shown {
     Stored(usize, usize),
     Default,
@@ -24,7 +26,7 @@ pub enum Shown {
 }
 
 // What reading state comes back with.
-#[derive(Drop)]
+#[derive(Clone, Copy)]
 pub struct State {
     pub result: u8,
     pub shown: Shown,

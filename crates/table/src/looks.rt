@@ -8,7 +8,7 @@ ghost use Rattle.table.specs.Looked.{sought_in};
 use lent::look::Look;
 
 // What is found of an address: whether all records are sound, and its place (past the end where it has none).
-#[derive(Drop)]
+#[derive(Clone, Copy)]
 pub struct Sought {
     pub sound: bool,
     pub place: usize,

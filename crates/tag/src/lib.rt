@@ -1,4 +1,6 @@
 // Tags: the n-th tag of an address, the number of a tag, and the comparison of a presented token with a tag.
+#![tactic(auto)]
+
 ghost use Rattle.std.specs.Prelude.{◌≡◌, ◌+◌, ◌%◌};
 ghost use Rattle.tag.specs.Tag.{tag_of};
 ghost use Rattle.tag.specs.Given.{number_of_tag, is_given};
@@ -37,6 +39,7 @@ pub fn number_of_tag(start: u32, tag: u32) -> u64
 }
 
 // Whether some number from 1 to spent gives this tag.
+#[tactic(auto, unfolding(crate::specs::Given::is_given))]
 pub fn is_given(start: u32, spent: u32, tag: u32) -> bool
     ensures { result ≡ is_given start spent tag }
 {

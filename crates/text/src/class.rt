@@ -15,7 +15,7 @@ const CLASS: [u8; 256] = [
 ];
 
 // The kinds of bytes that are told by comparisons.
-#[derive(Drop)]
+#[derive(Clone, Copy)]
 pub enum Kind {
     Digit,
     Blank,
@@ -24,7 +24,7 @@ pub enum Kind {
 }
 
 // The kinds of bytes that are told by the table.
-#[derive(Drop)]
+#[derive(Clone, Copy)]
 pub enum Class {
     Token,
     Value,

@@ -3,6 +3,7 @@ ghost use Rattle.std.specs.Prelude.{◌≡◌};
 ghost use Rattle.text.specs.Names.{lower, same_text};
 
 // A capital as its small letter, any other byte as it is.
+#[tactic(auto, unfolding(crate::specs::Names::lower))]
 pub fn small(b: u8) -> u8
     ensures { result ≡ lower b }
 {

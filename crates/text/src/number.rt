@@ -5,7 +5,7 @@ ghost use Rattle.text.specs.Number.{number_of};
 use crate::class;
 
 // What a run of decimal digits says: its value, or that it is no number within the bound.
-#[derive(Drop)]
+#[derive(Clone, Copy)]
 pub enum Num {
     Value(u64),
     Unfit,

@@ -5,7 +5,7 @@ use Rattle.laws.specs.Lists.{every, same, empty}
 use Rattle.text.specs.Class.{from_to}
 use Rattle.text.specs.Names.{same_text}
 use Rattle.uri.specs.Escapes.{normal, folded}
-use Rattle.uri.specs.Read.{ends_of, is_uri, Uri, parts_of}
+use Rattle.uri.specs.Read.{ends_of, is_uri, Uri}
 use Rattle.uri.specs.Alike.{is_loose, alike}
 
 -- the URI has no parameters and no headers: the text ends behind the port

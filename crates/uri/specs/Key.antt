@@ -1,7 +1,7 @@
 -- A number of a URI's user: two URIs that are the same address have the same. So where two numbers differ, no more is compared.
 use Rattle.std.specs.Prelude.{ℕ, ◌+◌, ◌*◌, ◌%◌, List, [], ◌∷◌}
 use Rattle.uri.specs.Escapes.{normal}
-use Rattle.uri.specs.Read.{ends_of, parts_of, Uri}
+use Rattle.uri.specs.Read.{ends_of, parts_of}
 
 -- the number of a text, behind the number k
 unfoldable pub weighed : ℕ → List ℕ → ℕ

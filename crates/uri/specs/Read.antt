@@ -1,6 +1,6 @@
 -- SIP-URI = "sip:" [ userinfo ] hostport uri-parameters [ headers ], and SIPS-URI with "sips:", by RFC 3261 section 25.
 -- Rules 12.1 to 12.8 of docs/RULES.md.
-use Rattle.std.specs.Prelude.{ℕ, ◌+◌, Bool, ◌&&◌, ◌||◌, not, List, [], eqb, ltb, length, take, drop}
+use Rattle.std.specs.Prelude.{ℕ, ◌+◌, Bool, ◌&&◌, ◌||◌, not, List, [], eqb, ltb, length}
 use Rattle.laws.specs.Choose.{pick}
 use Rattle.laws.specs.Bytes.{bytes}
 use Rattle.laws.specs.Lists.{byte_at, part, every}

@@ -15,6 +15,7 @@ use crate::reading::{Ends, Reading};
 use crate::{classes, escapes, reading};
 
 // Whether a text that was read is a table address: 1 to 64 bytes, a URI, no parameters, no headers.
+#[tactic(auto, using(crate::proofs::ReadLaws::address_none, crate::proofs::ReadLaws::address_long, crate::proofs::ReadLaws::address_unread, crate::proofs::ReadLaws::address_read))]
 fn is_tabled(a: &[u8], r: Reading) -> bool
     requires { r ≡ reading_of a.now }
     ensures { result ≡ is_table_address a.now }
@@ -49,6 +50,7 @@ fn in_userinfo(s: &[u8], e: Ends, a: usize, b: usize) -> &[u8]
 }
 
 // Whether host and port are the same, the host in either case.
+#[tactic(auto, unfolding(crate::specs::Read::parts_of))]
 fn same_place(s: &[u8], e: Ends, t: &[u8], f: Ends) -> bool
     ensures { result ≡ (same_text (parts_of s.now e).host (parts_of t.now f).host
         && same (parts_of s.now e).port (parts_of t.now f).port) }

@@ -4,7 +4,7 @@ ghost use Rattle.text.specs.Runs.{past};
 ghost use Rattle.uri.specs.Classes.{is_of, is_other};
 ghost use Rattle.uri.specs.Sets.{is_in, set_of};
 
-#[derive(Drop)]
+#[derive(Clone, Copy)]
 pub enum Class {
     User,
     Password,
@@ -20,7 +20,7 @@ pub enum Class {
 }
 
 // The numbers from 0 to 63 that are in a set, and those from 64 to 127, a bit for each.
-#[derive(Drop)]
+#[derive(Clone, Copy)]
 pub struct Set {
     pub low: u64,
     pub high: u64,

@@ -10,7 +10,7 @@ use crate::classes;
 use crate::classes::Class;
 
 // What stands at a position for one byte of the normal text, and where the next begins.
-#[derive(Drop)]
+#[derive(Clone, Copy)]
 pub struct Unit {
     pub value: u16,
     pub next: usize,

@@ -9,7 +9,7 @@ use crate::classes;
 use crate::classes::Class;
 
 // Where an IPv6 address stands between two groups.
-#[derive(Drop)]
+#[derive(Clone, Copy)]
 pub enum Place {
     Begin,
     Front,

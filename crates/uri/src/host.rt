@@ -11,14 +11,14 @@ use crate::classes::Class;
 use crate::{classes, groups};
 
 // Whether a text is a label, and a toplabel.
-#[derive(Drop)]
+#[derive(Clone, Copy)]
 pub struct Label {
     pub fits: bool,
     pub top: bool,
 }
 
 // Where a host ends, and whether it is one.
-#[derive(Drop)]
+#[derive(Clone, Copy)]
 pub struct Host {
     pub end: usize,
     pub fits: bool,

@@ -9,7 +9,7 @@ use crate::classes::Class;
 use crate::{classes, escapes, names};
 
 // What is asked: whether it is a parameter, a header, or a parameter that may stand in one URI alone.
-#[derive(Drop)]
+#[derive(Clone, Copy)]
 pub enum Piece {
     Parameter,
     Header,

@@ -12,7 +12,7 @@ use crate::pieces::Piece;
 use crate::{classes, escapes, host, pieces};
 
 // Where the parts of a URI end, in their order; the host begins at `start`.
-#[derive(Drop)]
+#[derive(Clone, Copy)]
 pub struct Ends {
     pub scheme: usize,
     pub user: usize,
@@ -24,7 +24,7 @@ pub struct Ends {
 }
 
 // The ends of a text's parts, and whether it is a URI.
-#[derive(Drop)]
+#[derive(Clone, Copy)]
 pub struct Reading {
     pub ends: Ends,
     pub fits: bool,

@@ -1,4 +1,4 @@
--- From what the walks know, the contracts: the covered functions settle by the looks at the records, and the one that is taken out, what the definitions
+-- From what the callees ensure, the contracts: the functions called settle by the looks at the records, and the one that is taken out, what the definitions
 -- settle of the lent table, once the record kept is put at its place.
 use mathlib.Core.Path.{◌≡◌, sym, ◌∙◌, ap}
 use mathlib.Core.List.{List}
@@ -15,7 +15,7 @@ use Rattle.table.specs.declared.handling.Settled.{Settled}
 use Rattle.table.proofs.LookedLaws.{LooksLong, open_looked, add_looked, handle_looked}
 use Rattle.state.specs.Looked.{state_at, ReadAt}
 use Rattle.state.proofs.LentLaws.{read_looked}
-use Rattle.windgusset.specs.Contracts.{OpenedAs, AddedAs, HandledAs, StateAs, ReadAs}
+use Rattle.windgusset.specs.Ensured.{OpenedAs, AddedAs, HandledAs, StateAs, ReadAs}
 
 -- the empty record put at all sixteen places, and what the covered call makes of the store, is `open`
 pub opened_as : (records : List Record) (store : List ℕ) (r : ℕ) (records' : List Record) (store' : List ℕ)

@@ -1,9 +1,2 @@
-pub mod Shared
-pub mod Steps
-pub mod Looks
-pub mod Seeks
-pub mod Calls
-pub mod Lent
-pub mod Results
 pub mod ContractLaws
 pub mod OneOutcome

@@ -8,7 +8,7 @@ use Rattle.table.specs.Handle.{Done}
 use Rattle.table.specs.Read.{Readout}
 use Rattle.table.specs.declared.Handled.{Handled}
 use Rattle.table.specs.declared.State.{State}
-use Rattle.windgusset.specs.Contracts.{OpenedAs, AddedAs, HandledAs, StateAs, ReadAs}
+use Rattle.windgusset.specs.Ensured.{OpenedAs, AddedAs, HandledAs, StateAs, ReadAs}
 
 -- two results with the records and the store that go with them
 pub record SameAfter (r r' : ℕ) (rs rs' : List Record) (ss ss' : List ℕ) : Type 0 where

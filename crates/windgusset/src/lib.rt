@@ -1,5 +1,7 @@
 // The public functions: they walk the lent slice of records.
-ghost use Rattle.windgusset.specs.Contracts.{OpenedAs, AddedAs, HandledAs, StateAs, ReadAs};
+#![tactic(auto)]
+
+ghost use Rattle.windgusset.specs.Ensured.{OpenedAs, AddedAs, HandledAs, StateAs, ReadAs};
 
 use record::Record;
 use table::opening::place_to_empty;
@@ -104,14 +106,14 @@ pub fn read<'a>(
 }
 
 // The records and the result of `open` or `add` on sixteen records by value.
-#[derive(Drop)]
+#[derive(Clone, Copy)]
 pub struct Told {
     pub table: [Record; 16],
     pub result: u8,
 }
 
 // The records after `handle` on sixteen records by value, and what it comes back with.
-#[derive(Drop)]
+#[derive(Clone, Copy)]
 pub struct Served {
     pub table: [Record; 16],
     pub handled: Handled,

@@ -1,0 +1,40 @@
+-- Each turn takes one piece, behind which the next begins; the bytes before it are read, and reading on from there gives what the whole chunk
+-- gives. An error leaves the store behind the piece that was taken last.
+use mathlib.Core.Path.{refl}
+use native.Mathlib.Omega.{arith}
+use borrow.Author.Rules.{rules}
+use Rattle.page.proofs.LineLaws.{piece_on_lem}
+use Rattle.desk.specs.Reading.{read_on}
+use Rattle.desk.proofs.ReadToLaws.{piece_taken, chunk_read}
+use Rattle.desk.proofs.ErrLaws.{on_err, chunk_taken, chunk_stopped}
+use Rattle.desk.proofs.reading.take_all.Goals as goal
+
+pub loop-at-init : goal.loop-at-init
+unfolding read_on
+loop-at-init g c = (search rules, search rules, search rules, refl, refl)
+
+pub loop-at-smaller : goal.loop-at-smaller
+loop-at-smaller g c = omega (arith, piece_on_lem _ _ c.piece_at-piece.ensures c.loop-at-test.true)
+
+pub loop-at-preserved : goal.loop-at-preserved
+loop-at-preserved g c =
+    let l = c.loop-at in
+    let w = c.in_ok-next.ensures.ok in
+    let on = piece_on_lem _ _ c.piece_at-piece.ensures c.loop-at-test.true in (
+      search rules,
+      search rules,
+      w.fits,
+      piece_taken _ _ _ l.invariant.3 _ c.piece_at-piece.ensures c.part_of-bs.ensures w,
+      chunk_taken _ _ _ l.line l.p l.store l.invariant.4 c.piece_at-piece.ensures c.part_of-bs.ensures (omega (arith, on)) w,
+    )
+
+pub returns-clause-ok : goal.returns-clause-ok
+returns-clause-ok g c =
+    record { fits = c.loop-at.invariant.2; reads = chunk_read _ _ _ c.loop-at.invariant.3 c.loop-at-test.false }
+
+pub returns-in_err-next-clause-err : goal.returns-in_err-next-clause-err
+returns-in_err-next-clause-err g c =
+    let l = c.loop-at in
+    let on = piece_on_lem _ _ c.piece_at-piece.ensures c.loop-at-test.true in
+    on_err _
+    (chunk_stopped _ _ _ l.line l.p l.store l.invariant.4 c.piece_at-piece.ensures c.part_of-bs.ensures (omega (arith, on)) c.in_err-next.ensures.err)

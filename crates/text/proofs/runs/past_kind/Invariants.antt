@@ -1,0 +1,13 @@
+-- Where the run ends does not change while bytes of the kind are passed, and it ends at the first other byte or at the end of the text.
+use mathlib.Core.Path.{◌≡◌}
+use Prim.Native.Nat.{◌-◌}
+use lib.ListN.{length}
+use Rattle.text.specs.Class.{is_kind}
+use Rattle.text.specs.Runs.{past}
+use Rattle.text.proofs.runs.past_kind.Given as goal
+
+abbrev pub invariant-loop-i : goal.invariant-loop-i
+invariant-loop-i l = past (is_kind l.kind) l.s l.at ≡ past (is_kind l.kind) l.s l.i
+
+abbrev pub decreases-loop-i : goal.decreases-loop-i
+decreases-loop-i l = length l.s - l.i
