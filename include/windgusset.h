@@ -37,10 +37,10 @@ int main(void) {
 #define WINDGUSSET_BODY_BYTES 512     /* the longest body; slot k of record r has its own from 4096 * r + 512 * k of the store on */
 #define WINDGUSSET_CLOCK_LIMIT UINT64_C(1000000000000)
 /* The stack that a function takes below its caller, in bytes, measured, with the memcpy and memset of glibc. */
-#define WINDGUSSET_OPEN_STACK 128
-#define WINDGUSSET_ADD_STACK 3840
-#define WINDGUSSET_HANDLE_STACK 4480
-#define WINDGUSSET_READ_STACK 3392
+#define WINDGUSSET_OPEN_STACK 64
+#define WINDGUSSET_ADD_STACK 5376
+#define WINDGUSSET_HANDLE_STACK 5888
+#define WINDGUSSET_READ_STACK 4480
 
 /* What a call comes back with; the first that applies is given. */
 enum windgusset_result {
