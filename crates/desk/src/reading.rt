@@ -92,6 +92,7 @@ fn take<W: Write>(
         ReadTo (piece_on (reading_of line.old progress store.old) bs.now ended) line.new after store.new) }
     ensures err { OnErr result
         ((ended ≡ true) × (store.new ≡ (piece_on (reading_of line.old progress store.old) bs.now ended).table.store)) }
+    ensures room { length line.new ≡ length line.old }
 {
     let p = hold(line, progress, bs);
     if ended {
@@ -114,6 +115,7 @@ pub fn take_all<W: Write>(
         ReadTo (read_on (reading_of line.old progress store.old) chunk.now) line.new after store.new) }
     ensures err { OnErr result
         (RunIn (reading_of line.old progress store.old) chunk.now store.new) }
+    ensures room { length line.new ≡ length line.old }
 {
     let mut p = progress;
     let mut at = 0;
