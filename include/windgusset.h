@@ -38,7 +38,7 @@ int main(void) {
 #define WINDGUSSET_CLOCK_LIMIT UINT64_C(1000000000000)
 /* The stack that a function takes below its caller, in bytes, measured, with the memcpy and memset of glibc. */
 #define WINDGUSSET_OPEN_STACK 64
-#define WINDGUSSET_ADD_STACK 5376
+#define WINDGUSSET_ADD_STACK 4224
 #define WINDGUSSET_HANDLE_STACK 5888
 #define WINDGUSSET_READ_STACK 4480
 

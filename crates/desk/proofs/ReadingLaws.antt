@@ -12,8 +12,9 @@ use lib.Seq.{take-nil, take-add, drop-cons, drop-drop, get_or-drop}
 use borrow.Author.Tests.{eqb-true, ltb-true, lt-ltb, le-ltb}
 use Rattle.laws.specs.Choose.{pick}
 use Rattle.laws.specs.Lists.{part}
+use Rattle.text.specs.Class.{is_other}
 use Rattle.text.specs.Runs.{run, past}
-use Rattle.page.specs.Lines.{is_other, piece_at}
+use Rattle.page.specs.Lines.{piece_at}
 use Rattle.page.specs.declared.lines.Piece.{Piece}
 use Rattle.desk.specs.Reading.{Reading, hold_on, line_on, byte_on, read_on}
 use Rattle.desk.specs.ReadTo.{piece_on}

@@ -1,5 +1,5 @@
 -- The laws of what is said of a line where more is asked for.
-use mathlib.Core.Path.{◌≡◌, refl, ◌∙◌}
+use mathlib.Core.Path.{◌≡◌, ◌∙◌}
 use mathlib.Core.Bool.{true, false}
 use mathlib.Core.List.{List}
 use Prim.Native.Nat.{ℕ, ◌+◌, ◌-◌, ◌<◌, ◌≤◌}
@@ -8,26 +8,15 @@ use lib.ListN.{length}
 use Rattle.laws.specs.Lists.{part}
 use Rattle.laws.specs.Wrote.{Wrote}
 use Rattle.laws.proofs.Wrote.{wrote_part}
-use Rattle.record.specs.declared.Record.{Record}
 use Rattle.table.specs.Table.{Table}
 use Rattle.table.specs.Read.{state_of}
-use Rattle.table.specs.declared.State.{State}
 use Rattle.listing.specs.Witness.{is_reading, query_of, read_or}
 use Rattle.frames.specs.Lines.{line_bytes}
 use Rattle.frames.specs.Shown.{shown_text}
 use Rattle.frames.specs.declared.shown.Shown.{Shown}
 use Rattle.frames.specs.declared.shown.Shown.TheVariants.{Read}
 use Rattle.frames.proofs.WantedLaws.{Reads, reading_within, reading_order}
-use Rattle.windgusset.specs.Ensured.{StateAs}
 use Rattle.desk.specs.Told.{told_text}
-
--- the state that is read for an address and a package of a frame
-pub state_read : (rs : List Record) (store f : List ℕ) (clock from to n : ℕ) {address name : List ℕ} {s : State}
-    → address ≡ part f 10 from → name ≡ part f (from + 1) to → StateAs rs store address name clock s
-    → Read s n
-    ≡ Read (state_of (record { address = part f 10 from; name = part f (from + 1) to; clock = clock }) (record { records = rs; store = store })) n
-unfolding StateAs
-state_read rs store f clock from to n p q w = rw (w, p, q)
 
 module _ (f : List ℕ) {clock from to : ℕ} (w : Reads f clock from to) where
   -- the package stands behind the address, and within the frame
@@ -52,8 +41,3 @@ module _ (t : Table) (l : List ℕ) where
   pub told_line : (x : List ℕ) {d d' f y : List ℕ} {n : ℕ} → Wrote d 0 (line_bytes l) d' n → f ≡ part d' 0 n → y ≡ read_or t f x → y ≡ told_text true t l x
   unfolding told_text
   told_line x w e h = rw (e ∙ wrote_part w) at h
-
-  -- no more is asked for
-  pub told_plain : (x : List ℕ) → x ≡ told_text false t l x
-  unfolding told_text
-  told_plain x = refl

@@ -8,7 +8,6 @@ use Rattle.laws.specs.Bytes.{bytes}
 use Rattle.laws.specs.Choose.{pick}
 use Rattle.laws.specs.Lists.{byte_at}
 use Rattle.laws.specs.Wrote.{Wrote}
-use Rattle.record.specs.declared.Record.{Record}
 use Rattle.response.specs.Outcomes.{is_success}
 use Rattle.publish.specs.Refusals.{Case, outcome_of}
 use Rattle.table.specs.Table.{Table}
@@ -25,7 +24,7 @@ use Rattle.frames.proofs.LineLaws.{line_frame_lem}
 use Rattle.frames.proofs.WantedLaws.{reading_bad}
 use Rattle.desk.specs.Left.{Left, left_by, LeftAs}
 use Rattle.desk.specs.Told.{told_text}
-use Rattle.desk.specs.Turned.{printed_for, table_behind, BehindAs, Turned}
+use Rattle.desk.specs.Turned.{printed_for, table_behind, Turned}
 use Rattle.desk.specs.declared.step.Step.{Step}
 
 -- of the answer buffer only its length is looked at
@@ -80,15 +79,14 @@ told_said false t l = refl
 told_said true t l = own_same t l (shown_of t (line_frame l)).text ∙ line_witness t l
 
 -- a step, and what is said of the line put to a page, are a turn
-pub turned : (more : Bool) (rs : List Record) (store b l page : List ℕ) (n : ℕ) (r : Step) (store' b' : List ℕ) (x : Shown) (page' : List ℕ) (e : ℕ)
-    → LeftAs rs store b (line_frame l) r store' b' → length b ≡ 4608
-    → shown_text x ≡ told_text more (record { records = r.table; store = store' }) l (shown_text r.shown)
+pub turned : (more : Bool) (t : Table) (b l page : List ℕ) (n : ℕ) (r : Step) (t' : Table) (b' : List ℕ) (x : Shown) (page' : List ℕ) (e : ℕ)
+    → LeftAs t b (line_frame l) r t' b' → length b ≡ 4608
+    → shown_text x ≡ told_text more t' l (shown_text r.shown)
     → Wrote page 0 (line_text n x) page' e
-    → Turned more rs store b l page n (record { table = r.table; length = r.length; end = e }) store' b' page'
-unfolding LeftAs line_text printed_for table_behind BehindAs
-turned more rs store b l page n r store' b' x page' e w h k v =
-    let t : Table = record { records = rs; store = store } in
-    let s : said (record { shown = r.shown; length = r.length; table = record { records = r.table; store = store' }; buffer = b' }) ≡ shown_of t (line_frame l) =
+    → Turned more t b l page n (record { length = r.length; end = e }) t' b' page'
+unfolding LeftAs line_text printed_for table_behind
+turned more t b l page n r t' b' x page' e w h k v =
+    let s : said (record { shown = r.shown; length = r.length; table = t'; buffer = b' }) ≡ shown_of t (line_frame l) =
     ap said w ∙ left_said t b (line_frame l) h in
     let m : shown_text x ≡ pick more (witness_text t l) (shown_of t (line_frame l)).text =
     k ∙ ap (λ (y : Said). told_text more y.table l y.text) s ∙ told_said more t l in

@@ -1,7 +1,6 @@
 -- What a frame leaves on the desk.
 -- Rules 11.2 to 11.4 of docs/RULES.md.
 use Rattle.std.specs.Prelude.{◌≡◌, List, ℕ}
-use Rattle.record.specs.declared.Record.{Record}
 use Rattle.table.specs.Table.{Table}
 use Rattle.table.specs.Add.{added}
 use Rattle.table.specs.Handle.{done}
@@ -26,9 +25,7 @@ left_by t buffer (handles x) =
     record { shown = Answered d.handled.outcome; length = d.handled.length; table = d.table; buffer = d.buffer }
 left_by t buffer bad = record { shown = Bad; length = 0; table = t; buffer = buffer }
 
--- a step on sixteen records by value leaves what the frame leaves
-unfoldable pub LeftAs : (records : List Record) (store buffer : List ℕ) (f : Frame) (r : Step) (store' buffer' : List ℕ) → Type 0
-LeftAs records store buffer f r store' buffer' =
-    ◌≡◌ {A = Left}
-    (record { shown = r.shown; length = r.length; table = record { records = r.table; store = store' }; buffer = buffer' })
-    (left_by (record { records = records; store = store }) buffer f)
+-- a step leaves what the frame leaves
+unfoldable pub LeftAs : (t : Table) (buffer : List ℕ) (f : Frame) (r : Step) (t' : Table) (buffer' : List ℕ) → Type 0
+LeftAs t buffer f r t' buffer' =
+    ◌≡◌ {A = Left} (record { shown = r.shown; length = r.length; table = t'; buffer = buffer' }) (left_by t buffer f)

@@ -5,7 +5,6 @@ use Rattle.laws.specs.Bytes.{bytes}
 use Rattle.laws.specs.Choose.{pick}
 use Rattle.laws.specs.Wrote.{Wrote}
 use Rattle.text.specs.Digits.{decimal_of}
-use Rattle.record.specs.declared.Record.{Record}
 use Rattle.table.specs.Table.{Table}
 use Rattle.listing.specs.Frames.{line_frame}
 use Rattle.listing.specs.Listing.{shown_of}
@@ -22,15 +21,10 @@ printed_for more n t l =
 unfoldable pub table_behind : Table → List ℕ → Table
 table_behind t l = (shown_of t (line_frame l)).table
 
--- sixteen records by value and the store, after a line
-unfoldable pub BehindAs : (records : List Record) (store line : List ℕ) (records' : List Record) (store' : List ℕ) → Type 0
-BehindAs records store line records' store' =
-    ◌≡◌ {A = Table} (record { records = records'; store = store' }) (table_behind (record { records = records; store = store }) line)
-
 -- a turn puts what is printed to the front of a page, and leaves the table, the message's length and the answer buffer that the definitions
 -- leave
-pub record Turned (more : Bool) (records : List Record) (store buffer line page : List ℕ) (n : ℕ) (r : Turn) (store' buffer' page' : List ℕ) : Type 0 where
-  pub prints : Wrote page 0 (printed_for more n (record { records = records; store = store }) line) page' r.end
-  pub leaves : BehindAs records store line r.table store'
-  pub length : r.length ≡ (left_by (record { records = records; store = store }) buffer (line_frame line)).length
-  pub answer : buffer' ≡ (left_by (record { records = records; store = store }) buffer (line_frame line)).buffer
+pub record Turned (more : Bool) (t : Table) (buffer line page : List ℕ) (n : ℕ) (r : Turn) (t' : Table) (buffer' page' : List ℕ) : Type 0 where
+  pub prints : Wrote page 0 (printed_for more n t line) page' r.end
+  pub leaves : t' ≡ table_behind t line
+  pub length : r.length ≡ (left_by t buffer (line_frame line)).length
+  pub answer : buffer' ≡ (left_by t buffer (line_frame line)).buffer

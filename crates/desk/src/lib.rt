@@ -5,6 +5,7 @@ pub mod detail;
 pub mod printed;
 pub mod reading;
 pub mod readout;
+pub mod records;
 pub mod run;
 pub mod step;
 pub mod turn;

@@ -1,85 +1,75 @@
 // One line: its frame is put to the part.
 ghost use Rattle.std.specs.Prelude.{List, ℕ};
-ghost use Rattle.listing.specs.Frames.{adds, handles, bad, frame_of, line_frame};
+ghost use Rattle.listing.specs.Frames.{adds, handles, frame_of, line_frame};
 ghost use Rattle.desk.specs.Left.{LeftAs};
 
+use crate::records::Desk;
 use frames::frame::Asked;
 use frames::shown::Shown;
 use frames::{frame, hex};
-use record::Record;
+use response::fault;
+use text::part;
 
-// What came of a line: the records after it, what is shown of it, and the length of the message.
+// What came of a line: what is shown of it, and the length of the message.
 #[derive(Clone, Copy)]
 pub struct Step {
-    pub table: [Record; 16],
     pub shown: Shown,
     pub length: usize,
 }
 
-// A frame that is not so built: nothing changes.
-fn bad_frame(rs: [Record; 16]) -> Step
-    ensures { (s b : List ℕ) → LeftAs rs s b bad result s b }
-{
-    Step {
-        table: rs,
-        shown: Shown::Bad,
-        length: 0,
-    }
-}
-
 // A frame that adds.
-fn add_frame(rs: [Record; 16], store: &mut [u8], address: &[u8], start: u32, spent: u32) -> Step
+#[tactic(auto, unfolding(crate::specs::Left::LeftAs, crate::specs::Left::left_by, windgusset::specs::Ensured::AddedAs))]
+fn add_frame(desk: &mut Desk, address: &[u8], start: u32, spent: u32) -> Step
     ensures { (b : List ℕ)
-        → LeftAs rs store.old b (adds (record { address = address.entry.now; start = start; spent = spent })) result store.new b }
+        → LeftAs desk.old b (adds (record { address = address.now; start = start; spent = spent })) result desk.new b }
 {
-    let told = windgusset::add_sixteen(rs, store, address, start, spent);
-    let table = told.table;
+    let added = windgusset::add(&mut desk.records, &mut desk.store, address, start, spent);
     Step {
-        table,
-        shown: Shown::Added(told.result),
+        shown: Shown::Added(fault::told(added)),
         length: 0,
     }
 }
 
 // A frame that handles, with To number 1.
-fn handle_frame(
-    rs: [Record; 16],
-    store: &mut [u8],
-    clock: u64,
-    request: &[u8],
-    answer: &mut [u8],
-) -> Step
-    ensures { LeftAs rs store.old answer.old (handles (record { clock = clock; number = 1; request = request.now }))
-        result store.new answer.new }
+#[tactic(auto, unfolding(crate::specs::Left::LeftAs, crate::specs::Left::left_by, windgusset::specs::Ensured::HandledAs))]
+fn handle_frame(desk: &mut Desk, clock: u64, request: &[u8], answer: &mut [u8]) -> Step
+    ensures { LeftAs desk.old answer.old (handles (record { clock = clock; number = 1; request = request.now }))
+        result desk.new answer.new }
 {
-    let ran = windgusset::handle_sixteen(rs, store, clock, 1, request, answer);
-    let table = ran.table;
-    let handled = ran.handled;
-    let outcome = handled.outcome;
+    let handled = windgusset::handle(
+        &mut desk.records,
+        &mut desk.store,
+        clock,
+        1,
+        request,
+        answer,
+    );
     Step {
-        table,
-        shown: Shown::Answered(outcome),
+        shown: Shown::Answered(handled.outcome),
         length: handled.length,
     }
 }
 
-// A frame.
-fn frame_step(rs: [Record; 16], store: &mut [u8], answer: &mut [u8], f: &[u8]) -> Step
-    ensures { LeftAs rs store.old answer.old (frame_of f.now) result store.new answer.new }
+// A frame. Nothing changes where it is not so built.
+#[tactic(auto, using(crate::proofs::LeftLaws::left_bad), unfolding(frames::specs::Asked::frame_with))]
+fn frame_step(desk: &mut Desk, answer: &mut [u8], f: &[u8]) -> Step
+    ensures { LeftAs desk.old answer.old (frame_of f.now) result desk.new answer.new }
 {
     match frame::read_frame(f) {
-        Asked::Adds(start, spent) => add_frame(rs, store, frame::rest(f), start, spent),
-        Asked::Handles(clock) => handle_frame(rs, store, clock, frame::rest(f), answer),
-        Asked::Bad => bad_frame(rs),
+        Some(Asked::Adds { start, spent }) => add_frame(desk, frame::rest(f), start, spent),
+        Some(Asked::Handles { clock }) => handle_frame(desk, clock, frame::rest(f), answer),
+        None => Step {
+            shown: Shown::Bad,
+            length: 0,
+        },
     }
 }
 
 // A line.
-pub fn line_step(rs: [Record; 16], store: &mut [u8], answer: &mut [u8], line: &[u8]) -> Step
-    ensures { LeftAs rs store.old answer.old (line_frame line.now) result store.new answer.new }
+pub fn line_step(desk: &mut Desk, answer: &mut [u8], line: &[u8]) -> Step
+    ensures { LeftAs desk.old answer.old (line_frame line.now) result desk.new answer.new }
 {
-    let mut bytes = [0u8; 4105];
-    let into: &mut [u8] = &mut bytes;
-    let n = hex::decode(line, into);
-    frame_step(rs, store, answer, text::part::part_of(into, 0, n))
+    let bytes: &mut [u8] = &mut [0; 4105];
+    let n = hex::decode(line, bytes);
+    frame_step(desk, answer, part::part_of(bytes, 0, n))
 }

@@ -1,3 +1,2 @@
-pub mod ContractLaws
 pub mod OneOutcome
 pub mod Examples

@@ -8,13 +8,14 @@ ghost use Rattle.exported.specs.Ensured.{RepliedAs, ShownAs};
 
 use numbers::{HandledNumbers, StateNumbers};
 use record::Record;
+use response::fault::told;
 
 // All records emptied and the store zeroed.
 pub fn windgusset_open(records: &mut [Record], store: &mut [u8]) -> u8
     ensures { OpenedAs records.old store.old
         result records.new store.new }
 {
-    windgusset::open(records, store)
+    told(windgusset::open(records, store))
 }
 
 // An address added.
@@ -28,10 +29,11 @@ pub fn windgusset_add(
     ensures { AddedAs records.old store.old address.now start spent
         result records.new store.new }
 {
-    windgusset::add(records, store, address, start, spent)
+    told(windgusset::add(records, store, address, start, spent))
 }
 
 // One request handled.
+#[tactic(auto, unfolding(windgusset::specs::Ensured::HandledAs, crate::specs::Ensured::RepliedAs, crate::specs::Ensured::replied))]
 pub fn windgusset_handle(
     records: &mut [Record],
     store: &mut [u8],
@@ -48,6 +50,7 @@ pub fn windgusset_handle(
 }
 
 // State read.
+#[tactic(auto, unfolding(windgusset::specs::Ensured::StateAs, crate::specs::Ensured::ShownAs))]
 pub fn windgusset_read(
     records: &[Record],
     store: &[u8],

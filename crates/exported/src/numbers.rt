@@ -2,6 +2,7 @@
 ghost use Rattle.std.specs.Prelude.{◌≡◌};
 ghost use Rattle.exported.specs.Numbers.{field_seconds, handled_numbers, state_numbers};
 
+use response::fault::number;
 use response::{Field, Outcome};
 use table::{Handled, Shown, State};
 
@@ -27,74 +28,62 @@ pub struct StateNumbers {
 }
 
 // The seconds that a field says.
+#[tactic(auto, unfolding(crate::specs::Numbers::field_seconds))]
 fn field_seconds(f: Field) -> u64
     ensures { result ≡ field_seconds f }
 {
     match f {
-        Field::Nothing => 0,
-        Field::Allow => 0,
-        Field::AllowEvents => 0,
-        Field::MinExpires(least) => least as u64,
-        Field::Accept(_event) => 0,
+        Field::Nothing | Field::Allow | Field::AllowEvents | Field::Accept(_) => 0,
+        Field::MinExpires(least) => u64::from(least),
         Field::RetryAfter(seconds) => seconds,
     }
 }
 
 // A handled request in numbers.
+#[tactic(auto, unfolding(crate::specs::Numbers::handled_numbers, crate::specs::Numbers::seconds_of, crate::specs::Numbers::tag_number, response::specs::Outcomes::status_of, response::specs::Outcomes::result_of))]
 pub fn handled_numbers(h: Handled) -> HandledNumbers
     ensures { result ≡ handled_numbers h }
 {
-    let length = h.length;
-    let outcome = h.outcome;
-    match outcome {
-        Outcome::Silent(result) => HandledNumbers {
-            length,
-            seconds: 0,
-            tag: 0,
-            status: 0,
-            result,
+    let nothing = HandledNumbers {
+        length: h.length,
+        seconds: 0,
+        tag: 0,
+        status: 0,
+        result: 0,
+    };
+    match h.outcome {
+        Outcome::Silent(fault) => HandledNumbers {
+            result: number(fault),
+            ..nothing
         },
         Outcome::Refused(status, field) => HandledNumbers {
-            length,
             seconds: field_seconds(field),
-            tag: 0,
             status,
-            result: 0,
+            ..nothing
         },
         Outcome::Granted(tag, granted) => HandledNumbers {
-            length,
-            seconds: granted as u64,
+            seconds: u64::from(granted),
             tag,
             status: 200,
-            result: 0,
+            ..nothing
         },
     }
 }
 
 // State that was read, in numbers.
+#[tactic(auto, unfolding(crate::specs::Numbers::state_numbers, crate::specs::Numbers::shown_number, crate::specs::Numbers::position_of, crate::specs::Numbers::length_of))]
 pub fn state_numbers(s: State) -> StateNumbers
     ensures { result ≡ state_numbers s }
 {
-    let result = s.result;
-    let shown = s.shown;
-    match shown {
-        Shown::Stored(position, length) => StateNumbers {
-            position,
-            length,
-            shown: 1,
-            result,
-        },
-        Shown::Default => StateNumbers {
-            position: 0,
-            length: 0,
-            shown: 2,
-            result,
-        },
-        Shown::Front => StateNumbers {
-            position: 0,
-            length: 0,
-            shown: 0,
-            result,
-        },
+    let (position, length, shown) = match s.shown {
+        Shown::Stored(position, length) => (position, length, 1),
+        Shown::Default => (0, 0, 2),
+        Shown::Front => (0, 0, 0),
+    };
+    StateNumbers {
+        position,
+        length,
+        shown,
+        result: s.result,
     }
 }

@@ -1,5 +1,5 @@
 -- The laws of a line of hex digits: what the tests settle, and the bytes that its pairs make.
-use mathlib.Core.Path.{◌≡◌, refl, sym}
+use mathlib.Core.Path.{◌≡◌, refl}
 use mathlib.Core.Bool.{Bool, true, false, ◌&&◌}
 use mathlib.Core.List.{List, [], ◌∷◌}
 use Prim.Native.Nat.{ℕ, zero, suc, ◌+◌, ◌*◌, ◌/◌, ◌%◌, ◌<◌, ◌≤◌}
@@ -8,49 +8,32 @@ use native.Mathlib.Omega.{arith}
 use lib.Dec.{eqb}
 use lib.ListN.{length, get_or, take, set}
 use lib.Seq.{take_all}
-use borrow.Author.Tests.{ltb-true, leb-true, lt-ltb, le-ltb, le-leb, lt-leb, eq-eqb, ne_eqb}
+use borrow.Author.Tests.{ltb-true, leb-true, lt-leb}
+use Rattle.std.specs.List.{list_all}
 use Rattle.laws.specs.Lists.{every}
 use Rattle.laws.specs.Wrote.{Wrote}
-use Rattle.laws.proofs.Wrote.{wrote_none, wrote_more}
+use Rattle.laws.proofs.Wrote.{wrote_more}
 use Rattle.laws.proofs.Tests.{and_left, and_right, every_at}
 use Rattle.text.specs.Digits.{hex_value}
 use Rattle.listing.specs.Frames.{is_hex, hex_bytes}
-use Rattle.frames.specs.Lines.{is_hex_digit, line_bytes}
+use Rattle.frames.specs.Lines.{is_hex_digit}
 
-module _ (b : ℕ) {v : ℕ} (e : v ≡ hex_value b) where
-  -- a byte whose value is 16 is no hex digit
-  pub digit_not : 16 ≤ v → is_hex_digit b ≡ false
-  digit_not h = le-ltb (hex_value b) 16 (omega arith)
-
-  -- any other is one
-  pub digit_is : v < 16 → is_hex_digit b ≡ true
-  digit_is h = lt-ltb (hex_value b) 16 (omega arith)
+-- the test asked of every byte
+pub digits_all : (l : List ℕ) → list_all is_hex_digit l ≡ every is_hex_digit l
+unfolding every
+digits_all [] = refl
+digits_all (b ∷ l) = rw (digits_all l)
 
 -- a test that fails behind another: they do not hold together
 fails_behind : (a : Bool) {b : Bool} → b ≡ false → (a && b) ≡ false
 fails_behind true e = e
 fails_behind false e = refl
 
--- a test with one that holds behind it is the first alone
-holds_behind : (a : Bool) {b : Bool} → b ≡ true → (a && b) ≡ a
-holds_behind true e = e
-holds_behind false e = refl
-
 module _ (l : List ℕ) where
   -- a line of more than 8,210 digits is not so built
   pub hex_long : 8210 < length l → is_hex l ≡ false
   unfolding is_hex
   hex_long h = fails_behind (every is_hex_digit l) (fails_behind (eqb (length l % 2) 0) (lt-leb (length l) 8210 h))
-
-  -- one of an odd number of digits is not either
-  pub hex_odd : (length l % 2 ≡ 0 → ⊥) → is_hex l ≡ false
-  unfolding is_hex
-  hex_odd h = fails_behind (every is_hex_digit l) (rw (ne_eqb (length l % 2) 0 h))
-
-  -- of another the bytes decide
-  pub hex_asked : length l ≤ 8210 → length l % 2 ≡ 0 → every is_hex_digit l ≡ is_hex l
-  unfolding is_hex
-  hex_asked h k = sym (holds_behind (every is_hex_digit l) (rw (eq-eqb (length l % 2) 0 k, le-leb (length l) 8210 h)))
 
   module _ (e : is_hex l ≡ true) where
     -- the digits of a line that is so built have values below 16
@@ -91,17 +74,6 @@ pair_more {d} {d'} l i v h k e w =
     (rw (zero-add i) at (wrote_more (hex_bytes l) i (omega (arith, bytes_length l)) (omega arith) w))
 
 -- all pairs written
-pub pairs_all : {d d' : List ℕ} (l : List ℕ) (i : ℕ) → length l / 2 ≤ i → Wrote d 0 (take i (hex_bytes l)) d' (0 + i)
-    → Wrote d 0 (hex_bytes l) d' i
-pairs_all {d} {d'} l i h w = rw (zero-add i, take_all i (hex_bytes l) (omega (arith, bytes_length l))) at w
-
-module _ {d : List ℕ} (l : List ℕ) where
-  -- of a line that is not so built nothing is written
-  pub bytes_none : is_hex l ≡ false → Wrote d 0 (line_bytes l) d 0
-  unfolding line_bytes
-  bytes_none e = rw e (wrote_none d 0 (omega arith))
-
-  -- of another its bytes
-  pub bytes_all : {d' : List ℕ} {r : ℕ} → is_hex l ≡ true → Wrote d 0 (hex_bytes l) d' r → Wrote d 0 (line_bytes l) d' r
-  unfolding line_bytes
-  bytes_all e w = rw e w
+pub pairs_all : {d d' : List ℕ} (l : List ℕ) {i : ℕ} → i ≡ length l / 2 → Wrote d 0 (take i (hex_bytes l)) d' (0 + i)
+    → Wrote d 0 (hex_bytes l) d' (length l / 2)
+pairs_all {d} {d'} l {i} e w = rw (← e) (rw (zero-add i, take_all i (hex_bytes l) (omega (arith, bytes_length l))) at w)

@@ -1,11 +1,12 @@
 -- The numbers in a frame, high first.
 use mathlib.Core.Path.{◌≡◌, refl, sym, ◌∙◌, ap}
-use mathlib.Core.List.{List, ◌∷◌}
+use mathlib.Core.List.{List, [], ◌∷◌}
 use Prim.Native.Nat.{ℕ, suc, ◌+◌, ◌-◌, ◌*◌, ◌<◌, ◌≤◌}
 use native.Mathlib.Omega.{arith}
 use native.Mathlib.Numerals.{add-one}
 use lib.ListN.{length, get_or, take, drop}
 use lib.Seq.{drop-cons}
+use Rattle.std.specs.Int.{w32, from_be_bytes}
 use Rattle.laws.specs.Lists.{part}
 use Rattle.listing.specs.Frames.{high_first}
 
@@ -27,10 +28,10 @@ four_more k s i h =
 
 module _ (s : List ℕ) (i : ℕ) where
   -- the number of four bytes
-  pub four_is : {a b c d : ℕ} → i + 4 ≤ length s → a ≡ get_or s i 0 → b ≡ get_or s (i + 1) 0 → c ≡ get_or s (i + 2) 0 → d ≡ get_or s (i + 3) 0
-      → (a * 256 + b) * 65536 + (c * 256 + d) ≡ high_first 0 (part s i (i + 4))
+  pub four_is : i + 4 ≤ length s
+      → from_be_bytes w32 (get_or s i 0 ∷ get_or s (i + 1) 0 ∷ get_or s (i + 2) 0 ∷ get_or s (i + 3) 0 ∷ []) ≡ high_first 0 (part s i (i + 4))
   unfolding part high_first
-  four_is h p q r t = let n : i + 4 - i ≡ 4 = omega arith in rw (n, four_more 0 s i h) (omega arith)
+  four_is h = let n : i + 4 - i ≡ 4 = omega arith in rw (n, four_more 0 s i h) (omega arith)
 
   -- the first four bytes and the last four, put together
   halves : i + 8 ≤ length s

@@ -1,5 +1,5 @@
 -- The laws of the witness's own frame: which tests make it one, where its parts lie, and that the bench says bad to it.
-use mathlib.Core.Path.{◌≡◌, refl, sym, ◌∙◌}
+use mathlib.Core.Path.{◌≡◌, refl, sym, ◌∙◌, ap}
 use mathlib.Core.Bool.{Bool, true, false}
 use mathlib.Core.List.{List}
 use Prim.Native.Nat.{ℕ, ◌+◌, ◌<◌, ◌≤◌}
@@ -15,39 +15,52 @@ use Rattle.listing.specs.Frames.{Frame, bad, high_first, frame_of}
 use Rattle.listing.specs.Witness.{name_from, default_from, is_reading, query_of}
 use Rattle.frames.specs.Wanted.{wanted_of}
 use Rattle.frames.specs.declared.wanted.Wanted.{Wanted}
-use Rattle.frames.specs.declared.wanted.Wanted.TheVariants.{State, Other}
+use Rattle.std.proofs.Common.{Option, Some, None}
 
-module _ (f : List ℕ) {a b : ℕ} (x : a ≡ byte_at f 9) (y : b ≡ byte_at f (10 + a)) where
+-- a frame that ends before its default body begins is another
+short_none : (f : List ℕ) → length f < default_from f → None ≡ wanted_of f
+unfolding wanted_of is_reading
+short_none f h = rw (lt-leb (default_from f) (length f) h)
+
+-- so is one of nine bytes or fewer
+pub wanted_begun : (f : List ℕ) → length f ≤ 9 → None ≡ wanted_of f
+unfolding default_from name_from
+wanted_begun f h = short_none f (omega arith)
+
+module _ (f : List ℕ) (g : 9 < length f) where
   -- where the length of the package stands
-  name_is : 10 + a ≡ name_from f
+  name_is : 10 + get_or f 9 0 ≡ name_from f
   unfolding name_from
-  name_is = rw x
+  name_is = rw (byte_there f 9 g)
 
-  -- where the default body begins
-  default_is : 10 + a + 1 + b ≡ default_from f
+  -- one that ends there is another
+  pub wanted_named : {name : ℕ} → name ≡ 10 + get_or f 9 0 → length f ≤ name → None ≡ wanted_of f
   unfolding default_from
-  default_is = rw (y, ← name_is)
+  wanted_named {name} e h = short_none f (omega (arith, name_is))
 
-  -- a frame that ends before that is another
-  pub wanted_short : length f < 10 + a + 1 + b → Other ≡ wanted_of f
-  unfolding wanted_of is_reading
-  wanted_short h = rw (lt-leb (default_from f) (length f) (omega (arith, default_is)))
+  module _ {name : ℕ} (e : name ≡ 10 + get_or f 9 0) (h : name < length f) where
+    -- where the default body begins
+    default_is : name + 1 + get_or f name 0 ≡ default_from f
+    unfolding default_from
+    default_is = rw (← name_is, ← e, byte_there f name h)
 
-  module _ (h : 10 + a + 1 + b ≤ length f) where
-    -- the first byte of any other is there
-    first : byte_at f 0 ≡ get_or f 0 0
-    first = byte_there f 0 (omega arith)
+    -- a frame that ends before that is another
+    pub wanted_short : length f < name + 1 + get_or f name 0 → None ≡ wanted_of f
+    wanted_short s = short_none f (omega (arith, default_is))
 
-    -- 02 reads state
-    pub wanted_state : {clock : ℕ} → get_or f 0 0 ≡ 2 → clock ≡ high_first 0 (part f 1 9) → State clock (10 + a) (10 + a + 1 + b) ≡ wanted_of f
-    unfolding wanted_of is_reading query_of
-    wanted_state e k =
-        rw (le-leb (default_from f) (length f) (omega (arith, default_is)), first, eq-eqb (get_or f 0 0) 2 e, k, default_is, name_is)
+    module _ (l : name + 1 + get_or f name 0 ≤ length f) where
+      -- 02 reads state
+      pub wanted_state : {clock : ℕ} → get_or f 0 0 ≡ 2 → clock ≡ high_first 0 (part f 1 9)
+          → Some (record { clock = clock; name = name; default = name + 1 + get_or f name 0 }) ≡ wanted_of f
+      unfolding wanted_of is_reading query_of
+      wanted_state t k =
+          rw (le-leb (default_from f) (length f) (omega (arith, default_is)), byte_there f 0 (omega arith), eq-eqb (get_or f 0 0) 2 t, k, default_is, e, name_is)
 
-    -- another first byte does not
-    pub wanted_other : (get_or f 0 0 ≡ 2 → ⊥) → Other ≡ wanted_of f
-    unfolding wanted_of is_reading
-    wanted_other e = rw (le-leb (default_from f) (length f) (omega (arith, default_is)), first, ne_eqb (get_or f 0 0) 2 e)
+      -- another first byte does not
+      pub wanted_other : (get_or f 0 0 ≡ 2 → ⊥) → None ≡ wanted_of f
+      unfolding wanted_of is_reading
+      wanted_other n =
+          rw (le-leb (default_from f) (length f) (omega (arith, default_is)), byte_there f 0 (omega arith), ne_eqb (get_or f 0 0) 2 n)
 
 -- what is known of a frame that reads state
 pub record Reads (f : List ℕ) (clock p d : ℕ) : Type 0 where
@@ -56,23 +69,31 @@ pub record Reads (f : List ℕ) (clock p d : ℕ) : Type 0 where
   pub name_at : p ≡ name_from f
   pub default_at : d ≡ default_from f
 
-module _ (f : List ℕ) {k : Wanted} (is : k ≡ wanted_of f) where
-  pub wanted_reads : {clock p d : ℕ} → k ≡ State clock p d → Reads f clock p d
+module _ (f : List ℕ) {k : Option Wanted} (is : k ≡ wanted_of f) where
+  pub wanted_reads : {w : Wanted} → k ≡ Some w → Reads f w.clock w.name w.default
   unfolding wanted_of
-  wanted_reads {clock} {p} {d} e = go (is_reading f) refl (sym is ∙ e)
+  wanted_reads {w} e = go (is_reading f) refl (sym is ∙ e)
     where
-      go : (t : Bool) → is_reading f ≡ t → pick t (State (query_of f).clock (name_from f) (default_from f)) Other ≡ State clock p d → Reads f clock p d
-      go true h w = record { built = h; clock_is = cc; name_at = cc; default_at = cc }
-      go false h w = absurd (let z : ◌≡◌ {A = ℕ} 0 1 = cc in omega arith)
+      asked : Wanted
+      asked = record { clock = (query_of f).clock; name = name_from f; default = default_from f }
+
+      go : (t : Bool) → is_reading f ≡ t → pick t (Some asked) None ≡ Some w → Reads f w.clock w.name w.default
+      go true h v =
+          let x : asked ≡ w = cc in
+          record { built = h; clock_is = sym (ap (λ (q : Wanted). q.clock) x); name_at = sym (ap (λ (q : Wanted). q.name) x); default_at = sym (ap (λ (q : Wanted). q.default) x) }
+      go false h v = cc
 
   -- and of another
-  pub wanted_none : k ≡ Other → is_reading f ≡ false
+  pub wanted_none : k ≡ None → is_reading f ≡ false
   unfolding wanted_of
   wanted_none e = go (is_reading f) refl (sym is ∙ e)
     where
-      go : (t : Bool) → is_reading f ≡ t → pick t (State (query_of f).clock (name_from f) (default_from f)) Other ≡ Other → is_reading f ≡ false
-      go true h w = absurd (let z : ◌≡◌ {A = ℕ} 0 1 = cc in omega arith)
-      go false h w = h
+      asked : Wanted
+      asked = record { clock = (query_of f).clock; name = name_from f; default = default_from f }
+
+      go : (t : Bool) → is_reading f ≡ t → pick t (Some asked) None ≡ None → is_reading f ≡ false
+      go true h v = cc
+      go false h v = h
 
 module _ (f : List ℕ) (h : is_reading f ≡ true) where
   -- its parts lie within it

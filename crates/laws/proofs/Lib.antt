@@ -3,6 +3,7 @@ pub mod Bools
 pub mod Below
 pub mod Table
 pub mod Tests
+pub mod Some
 pub mod Rows
 pub mod Parts
 pub mod Wrote

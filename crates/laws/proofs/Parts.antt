@@ -4,6 +4,7 @@ use mathlib.Core.List.{List, [], ◌++◌, append_assoc}
 use Prim.Native.Nat.{ℕ, ◌+◌, ◌-◌, ◌<◌, ◌≤◌, min}
 use native.Mathlib.Omega.{arith}
 use lib.ListN.{length, get_or, take, drop, length-append, length-take, length-drop, get_or-append, drop_of_length-le}
+use Rattle.std.proofs.lemmas.List.{take_min}
 use lib.Seq.{length-take-le, get_or-take, get_or-drop, get_or-append-add, take_at, drop_at, take_all, take-nil, ext_get_or}
 use Rattle.laws.specs.Lists.{part, put_at}
 
@@ -109,6 +110,13 @@ pub part_rest : (s : List ℕ) (a e : ℕ) → length s ≤ e → part s a e ≡
 unfolding part
 part_rest s a e h =
     take_all (e - a) (drop a s) (omega (arith, length-drop a s)) ∙ sym (take_all (length s - a) (drop a s) (omega (arith, length-drop a s)))
+
+-- a part that is cut off at the end of the list is the same
+pub part_cut : (s : List ℕ) (a e n : ℕ) → n ≡ min e (length s) - a → take n (drop a s) ≡ part s a e
+unfolding part
+part_cut s a e n h =
+    let k : n ≡ min (e - a) (length (drop a s)) = omega (arith, length-drop a s) in
+    rw k (take_min (e - a) (drop a s))
 
 -- n bytes from a position on are the first n of all that is left
 pub part_front : (s : List ℕ) (a n : ℕ) → part (part s a (length s)) 0 n ≡ part s a (a + n)

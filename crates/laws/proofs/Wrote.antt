@@ -1,11 +1,12 @@
 -- The laws of writing into a buffer: writes in a row are one, the buffer keeps its length, and what stands before and behind the write stays.
-use mathlib.Core.Path.{◌≡◌, sym, ◌∙◌, ap}
+use mathlib.Core.Path.{◌≡◌, refl, sym, ◌∙◌, ap}
 use mathlib.Core.List.{List, [], ◌∷◌, ◌++◌, append_assoc, append-nil}
 use Prim.Native.Nat.{ℕ, suc, ◌+◌, ◌<◌, ◌≤◌}
 use native.Mathlib.Nat.{add_assoc, add-suc, add-zero}
 use native.Mathlib.Numerals.{add-one}
 use native.Mathlib.Omega.{arith}
 use lib.ListN.{length, get_or, take, drop, set, length-append, take-append-drop, drop_of_length-le}
+use borrow.Rule.Slice.PartMut.{put_mid}
 use lib.Seq.{length-take-le, take_at, drop_at, drop-drop, take-suc, set_split, append_snoc}
 use Rattle.laws.specs.Lists.{part, put_at}
 use Rattle.laws.specs.Wrote.{Wrote}
@@ -85,6 +86,13 @@ pub wrote_more : {d : List ℕ} {at : ℕ} {d' : List ℕ} (bs : List ℕ) (i : 
 wrote_more {d} {at} {d'} bs i h k w =
     let l : length d' ≡ length d = wrote_length w in
     rw (add-one i, take-suc bs i 0 h, add-suc at i, ← add-one (at + i)) (then w (wrote_byte d' (at + i) (get_or bs i 0) (omega arith)))
+
+-- a part of the buffer copied over, as it is put in
+pub wrote_copy : (d bs xs : List ℕ) (at n : ℕ) → at + length bs ≤ length d → xs ≡ bs → n ≡ length bs
+    → Wrote d at bs (put_mid at n d xs) (at + length bs)
+unfolding put_at
+wrote_copy d bs xs at n h e k =
+    record { next = refl; room = h; holds = rw (e, k, drop-drop (length bs) at d) (sym (append_assoc (take at d) bs (drop (at + length bs) d))) }
 
 -- a write that fills the buffer leaves what was written
 pub wrote_whole : {d bs d' : List ℕ} {r : ℕ} → Wrote d 0 bs d' r → length bs ≡ length d → d' ≡ bs

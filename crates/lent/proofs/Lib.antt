@@ -1,2 +1,3 @@
 pub mod SixteenLaws
 pub mod LookLaws
+pub mod LookedLaws

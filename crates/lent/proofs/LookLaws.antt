@@ -14,6 +14,7 @@ use denote.Struct.Declared.{row}
 use denote.Struct.Laws.{owed}
 use Rattle.laws.specs.Choose.{pick}
 use Rattle.laws.specs.Lists.{every, pairwise, those, place_of}
+use Rattle.laws.proofs.Lists.{every_map}
 use Rattle.laws.proofs.Tests.{and_left, and_right, and_both, every_head, every_tail, every_cons, every_those}
 use Rattle.record.specs.Places.{is_in_use}
 use Rattle.record.specs.Address.{address_of, has_address, is_for}
@@ -56,15 +57,10 @@ module _ {A B : Type 0} (h : A → B) where
   take_map (suc n) [] = refl
   take_map (suc n) (x ∷ xs) = ap (λ (ys : List B). h x ∷ ys) (take_map n xs)
 
-  every_map : (f : B → Bool) (xs : List A) → every f (map h xs) ≡ every (λ x. f (h x)) xs
-  unfolding every
-  every_map f [] = refl
-  every_map f (x ∷ xs) = rw (every_map f xs)
-
   pairwise_map : (f : B → B → Bool) (xs : List A) → pairwise f (map h xs) ≡ pairwise (λ x y. f (h x) (h y)) xs
   unfolding pairwise
   pairwise_map f [] = refl
-  pairwise_map f (x ∷ xs) = rw (every_map (f (h x)) xs, pairwise_map f xs)
+  pairwise_map f (x ∷ xs) = rw (every_map h (f (h x)) xs, pairwise_map f xs)
 
   those_map : (f : B → Bool) (xs : List A) → those f (map h xs) ≡ map h (those (λ x. f (h x)) xs)
   unfolding those

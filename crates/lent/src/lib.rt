@@ -6,7 +6,7 @@ pub mod look;
 ghost use Rattle.std.specs.Prelude.{◌≡◌, set};
 ghost use Rattle.record.specs.Places.{empty_record};
 ghost use Rattle.lent.specs.Sixteen.{record_at};
-ghost use Rattle.lent.specs.Look.{look_at, looks_of};
+ghost use Rattle.lent.specs.Look.{looks_of};
 
 use look::Look;
 use record::Record;
@@ -15,7 +15,6 @@ use record::Record;
 pub fn empty() -> Record
     ensures { result ≡ empty_record }
 {
-    let s = record::slots::zero_slot();
     Record {
         used: 0,
         address: [0; 64],
@@ -23,60 +22,39 @@ pub fn empty() -> Record
         spent: 0,
         clock: 0,
         map: 0,
-        slots: [s; 8],
+        slots: [record::slots::zero_slot(); 8],
     }
 }
 
 // Record i, by value; the all-zero record past the end.
+#[tactic(auto, unfolding(crate::specs::Sixteen::record_at))]
 pub fn record_or_empty(t: &[Record], i: usize) -> Record
     ensures { result ≡ record_at t.now i }
 {
-    if i < t.len() {
-        return t[i];
+    match t.get(i) {
+        Some(r) => *r,
+        None => empty(),
     }
-    empty()
-}
-
-// The look at record i; at the all-zero record past the end.
-pub fn look_or_none(t: &[Record], i: usize) -> Look
-    ensures { result ≡ look_at t.now i }
-{
-    if i < t.len() {
-        return look::look_of(t[i]);
-    }
-    look::no_look()
 }
 
 // The looks at the first sixteen records, at the all-zero record past the end.
 pub fn looked(t: &[Record]) -> [Look; 16]
     ensures { result ≡ looks_of t.now }
 {
-    [
-        look_or_none(t, 0),
-        look_or_none(t, 1),
-        look_or_none(t, 2),
-        look_or_none(t, 3),
-        look_or_none(t, 4),
-        look_or_none(t, 5),
-        look_or_none(t, 6),
-        look_or_none(t, 7),
-        look_or_none(t, 8),
-        look_or_none(t, 9),
-        look_or_none(t, 10),
-        look_or_none(t, 11),
-        look_or_none(t, 12),
-        look_or_none(t, 13),
-        look_or_none(t, 14),
-        look_or_none(t, 15),
-    ]
+    let mut looks = [look::no_look(); 16];
+    let front = &t[..t.len().min(16)];
+    for (i, r) in front.iter().enumerate() {
+        looks[i] = look::look_of(r);
+    }
+    looks
 }
 
 // Record r put at place i; past the end nothing is put.
 pub fn put_if(t: &mut [Record], i: usize, r: Record)
     ensures { t.new ≡ set t.old i r }
 {
-    if i >= t.len() {
-        return;
+    // By index: what `get_mut` of a slice writes is not known to a proof.
+    if i < t.len() {
+        t[i] = r;
     }
-    t[i] = r;
 }

@@ -14,9 +14,11 @@ pub struct Look {
 }
 
 // The look at a record.
-pub fn look_of(r: Record) -> Look
-    ensures { result ≡ look_of r }
+#[tactic(auto, unfolding(crate::specs::Look::look_of, record::specs::Places::is_in_use))]
+pub fn look_of(r: &Record) -> Look
+    ensures { result ≡ look_of r.now }
 {
+    // In a variable first: a literal with another struct's array is not covered by the borrow checker.
     let address = r.address;
     Look {
         used: r.used == 1,
@@ -26,6 +28,7 @@ pub fn look_of(r: Record) -> Look
 }
 
 // The look at the all-zero record.
+#[tactic(auto, unfolding(crate::specs::Look::look_of, record::specs::Sound::is_sound, record::specs::Places::is_in_use))]
 pub fn no_look() -> Look
     ensures { result ≡ look_of empty_record }
 {

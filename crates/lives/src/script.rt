@@ -1,134 +1,82 @@
-// A line of a script, and the life that it goes on with.
-use crate::{number, publication, show};
-use page::input::Decoded;
-use page::{input, output};
-use record::Record;
-use view::words;
+// What a frame of a script asks for. Numbers are high first.
+ghost use Rattle.std.specs.Prelude.{◌≤◌, length};
 
-// The life that is run: whether one has begun, and its record.
+// A publication: the tag presented and the body, both empty where there is none.
 #[derive(Clone, Copy)]
-pub struct Life {
-    pub begun: bool,
-    pub record: Record,
+pub struct Publication<'a> {
+    pub clock: u64,
+    pub event: u8,
+    pub granted: u32,
+    pub token: &'a [u8],
+    pub body: &'a [u8],
+    ghost in_range: { clock ≤ 1000000000000 },
+    ghost fits: { length body.now ≤ 512 },
 }
 
-// How far the page is filled, and the life after a line.
+// What is asked for: a life begins, a publication, or state is read.
 #[derive(Clone, Copy)]
-pub struct Turn {
-    pub at: usize,
-    pub life: Life,
+pub enum Step<'a> {
+    Begins { start: u32, spent: u32 },
+    Publishes(Publication<'a>),
+    Shows { clock: u64, event: u8 },
 }
 
-// The record of ann, added afresh.
-pub fn fresh(start: u32, spent: u32) -> Record {
-    let z = record::slots::zero_slot();
-    let mut address = [0u8; 64];
-    address[0] = 97;
-    address[1] = 110;
-    address[2] = 110;
-    Record {
-        used: 1,
-        address,
-        start,
-        spent,
-        clock: 0,
-        map: 0,
-        slots: [z; 8],
-    }
+// A life that begins.
+fn begins(f: &[u8]) -> Option<Step<'_>> {
+    let (start, f) = f.split_first_chunk()?;
+    let spent = f.as_array()?;
+    Some(Step::Begins {
+        start: u32::from_be_bytes(*start),
+        spent: u32::from_be_bytes(*spent),
+    })
 }
 
-// Puts "bad", with nothing changed.
-fn bad(out: &mut [u8], at: usize, life: Life) -> Turn {
-    let p = output::bytes(out, at, b" bad\n");
-    Turn { at: p, life }
-}
-
-// A line that begins a life.
-fn begin(out: &mut [u8], at: usize, store: &mut [u8], life: Life, f: &[u8]) -> Turn {
-    if f.len() != 9 {
-        return bad(out, at, life);
+// A publication, as the listing takes it.
+fn publishes(f: &[u8]) -> Option<Step<'_>> {
+    let (clock, f) = f.split_first_chunk()?;
+    let (event, f) = f.split_first()?;
+    let (granted, f) = f.split_first_chunk()?;
+    let (length, f) = f.split_first()?;
+    let clock = u64::from_be_bytes(*clock);
+    let granted = u32::from_be_bytes(*granted);
+    let length = usize::from(*length);
+    if f.len() < length {
+        return None;
     }
-    if store.len() < 4096 {
-        return bad(out, at, life);
+    let (token, body) = f.split_at(length);
+    if 1000000000000 < clock || 512 < body.len() {
+        return None;
     }
-    success::store::zero_part(store, 0);
-    let r = fresh(number::four(f, 1) as u32, number::four(f, 5) as u32);
-    let p = output::bytes(out, at, b" begins\n");
-    let next = Life {
-        begun: true,
-        record: r,
-    };
-    let q = show::put_state(out, p, r, store);
-    Turn { at: q, life: next }
-}
-
-// A line that publishes.
-fn publishes(out: &mut [u8], at: usize, store: &mut [u8], life: Life, f: &[u8]) -> Turn {
-    let t = number::byte(f, 14) as usize;
-    if !publication::is_publication(f, t) {
-        return bad(out, at, life);
+    if !record::packages::is_listed(*event) || record::packages::most_of(*event) < granted {
+        return None;
     }
-    let token = text::part::part_of(f, 15, 15 + t);
-    let body = text::part::part_of(f, 15 + t, f.len());
-    let r = life.record;
-    let turn = publication::publish(
-        out,
-        at,
-        store,
-        r,
-        publication::success_in(f, body),
+    Some(Step::Publishes(Publication {
+        clock,
+        event: *event,
+        granted,
         token,
         body,
-    );
-    let next = turn.life;
-    let n = next.record;
-    let p = show::put_state(out, turn.at, n, store);
-    Turn { at: p, life: next }
+    }))
 }
 
-// A line that reads state.
-fn shows(out: &mut [u8], at: usize, store: &[u8], life: Life, f: &[u8]) -> Turn {
-    if f.len() != 10 {
-        return bad(out, at, life);
-    }
-    let r = life.record;
-    let p1 = output::bytes(out, at, b" shows");
-    let p2 = words::put_number(
-        out,
-        p1,
-        record::slots::newest_slot(r, number::eight(f, 1), number::small(f, 9)) as u64,
-    );
-    let p3 = output::bytes(out, p2, b"\n");
-    let p = show::put_state(out, p3, r, store);
-    Turn { at: p, life }
-}
-
-// A frame.
-fn frame(out: &mut [u8], at: usize, store: &mut [u8], life: Life, f: &[u8]) -> Turn {
-    if f.len() == 0 {
-        return bad(out, at, life);
-    }
-    if number::small(f, 0) == 0 {
-        return begin(out, at, store, life, f);
-    }
-    if !life.begun {
-        return bad(out, at, life);
-    }
-    if number::small(f, 0) == 1 {
-        return publishes(out, at, store, life, f);
-    }
-    if number::small(f, 0) == 2 {
-        return shows(out, at, store, life, f);
-    }
-    bad(out, at, life)
-}
-
-// A line.
-pub fn run_line(out: &mut [u8], at: usize, store: &mut [u8], life: Life, line: &[u8]) -> Turn {
-    let mut bytes = [0u8; 4105];
-    let into: &mut [u8] = &mut bytes;
-    let Decoded::Bytes(n) = input::decode(line, 8210, into) else {
-        return bad(out, at, life);
+// State that is read.
+fn shows(f: &[u8]) -> Option<Step<'_>> {
+    let (clock, f) = f.split_first_chunk()?;
+    let [event] = f else {
+        return None;
     };
-    frame(out, at, store, life, input::held_part(into, n))
+    Some(Step::Shows {
+        clock: u64::from_be_bytes(*clock),
+        event: *event,
+    })
+}
+
+// What a frame asks for; nothing where it is none.
+pub fn step_of(frame: &[u8]) -> Option<Step<'_>> {
+    match frame {
+        [0, f @ ..] => begins(f),
+        [1, f @ ..] => publishes(f),
+        [2, f @ ..] => shows(f),
+        _ => None,
+    }
 }

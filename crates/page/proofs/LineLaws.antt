@@ -1,28 +1,18 @@
--- The laws of a piece of a line.
+-- The law of a piece of a line.
 use mathlib.Core.Path.{◌≡◌, refl}
 use mathlib.Core.Bool.{Bool, true, false}
 use mathlib.Core.List.{List}
-use Prim.Native.Nat.{ℕ, ◌+◌, ◌<◌, ◌≤◌}
+use Prim.Native.Nat.{ℕ, ◌+◌, ◌<◌}
 use native.Mathlib.Omega.{arith}
 use lib.Dec.{ltb}
 use lib.ListN.{length}
-use borrow.Author.Tests.{ltb-false, lt-ltb, le-ltb}
+use borrow.Author.Tests.{ltb-false}
 use Rattle.laws.specs.Choose.{pick}
+use Rattle.text.specs.Class.{is_other}
 use Rattle.text.specs.Runs.{past}
 use Rattle.text.proofs.RunLaws.{past_from}
-use Rattle.page.specs.Lines.{is_other, piece_at}
+use Rattle.page.specs.Lines.{piece_at}
 use Rattle.page.specs.declared.lines.Piece.{Piece}
-
-module _ (s : List ℕ) (at : ℕ) {e : ℕ} (ends : e ≡ past (is_other 10) s at) where
-  -- a piece that ends at LF: the next begins behind it
-  pub piece_ends : e < length s → ◌≡◌ {A = Piece} (record { end = e; next = e + 1 }) (piece_at s at)
-  unfolding piece_at
-  piece_ends h = rw (← ends, lt-ltb e (length s) h)
-
-  -- a piece that ends with the chunk
-  pub piece_rest : length s ≤ e → ◌≡◌ {A = Piece} (record { end = e; next = e }) (piece_at s at)
-  unfolding piece_at
-  piece_rest h = rw (← ends, le-ltb e (length s) h)
 
 -- the piece behind one that begins within the chunk begins further on
 pub piece_on_lem : (s : List ℕ) (at : ℕ) {p : Piece} → p ≡ piece_at s at → at < length s → at < p.next

@@ -1,13 +1,10 @@
 -- The pieces of lines in a chunk of bytes.
 -- Rule 11.1 of docs/RULES.md.
-use Rattle.std.specs.Prelude.{ℕ, ◌+◌, Bool, not, List, eqb, ltb, length}
+use Rattle.std.specs.Prelude.{ℕ, ◌+◌, List, ltb, length}
 use Rattle.laws.specs.Choose.{pick}
+use Rattle.text.specs.Class.{is_other}
 use Rattle.text.specs.Runs.{past}
 use Rattle.page.specs.declared.lines.Piece.{Piece}
-
--- a byte other than b
-abbrev pub is_other : ℕ → ℕ → Bool
-is_other b x = not (eqb x b)
 
 -- the piece from a position on: it ends at LF, which is passed over, or at the end of the chunk
 unfoldable pub piece_at : List ℕ → ℕ → Piece

@@ -1,114 +1,64 @@
-// Lines of hexadecimal.
-ghost use Rattle.std.specs.Prelude.{◌≡◌, ◌≤◌, length};
-ghost use Rattle.text.specs.Digits.{hex_value};
+// A line of the input, and the bytes that a line of hexadecimal says.
+ghost use Rattle.std.specs.Prelude.{◌≤◌};
 
-// What a line of hex digits says: so many bytes, or that it is not so built.
-#[derive(Clone, Copy)]
-pub enum Decoded {
-    Bytes(usize),
-    Bad,
+use text::digits::hex_value;
+
+// The byte of two hex digits.
+#[tactic(auto, using(laws::proofs::Some::told_below, laws::proofs::Some::told_is))]
+fn byte_of(high: u8, low: u8) -> Option<u8> {
+    let high = hex_value(high)?;
+    let low = hex_value(low)?;
+    Some(high * 16 + low)
 }
 
-// The value of a hex digit in either case; 16 where the byte is none.
-pub fn hex_value(b: u8) -> u8
-    ensures { result ≡ hex_value b }
-{
-    if text::class::is_digit(b) {
-        return b - 48;
-    }
-    if b < 65 {
-        return 16;
-    }
-    if b <= 70 {
-        return b - 55;
-    }
-    if b < 97 {
-        return 16;
-    }
-    if b <= 102 {
-        return b - 87;
-    }
-    16
-}
-
-// The byte of two hex digits at a position; 256 where they are none.
-fn pair_at(line: &[u8], i: usize) -> u16
-    ensures { result ≤ 256 }
-{
-    if line.len() < 2 {
-        return 256;
-    }
-    if line.len() - 2 < i {
-        return 256;
-    }
-    let high = hex_value(line[i]);
-    let low = hex_value(line[i + 1]);
-    if 16 <= high {
-        return 256;
-    }
-    if 16 <= low {
-        return 256;
-    }
-    high as u16 * 16 + low as u16
-}
-
-// The bytes of a line of hex digits of at most so many, put to the front of `out`.
-pub fn decode(line: &[u8], most: usize, out: &mut [u8]) -> Decoded {
-    if most < line.len() {
-        return Decoded::Bad;
-    }
-    if line.len() % 2 == 1 {
-        return Decoded::Bad;
-    }
+// The bytes of a line of hex digits, put to the front of some room; nothing where it is no such line or is too long.
+pub fn decode<'a>(line: &[u8], room: &'a mut [u8]) -> Option<&'a [u8]> {
     let n = line.len() / 2;
-    if out.len() < n {
-        return Decoded::Bad;
+    if line.len() % 2 == 1 || room.len() < n {
+        return None;
     }
-    let mut i = 0;
-    while i < n {
-        let b = pair_at(line, i * 2);
-        if b == 256 {
-            return Decoded::Bad;
-        }
-        out[i] = (b % 256) as u8;
-        i += 1;
+    for (i, pair) in line.chunks_exact(2).enumerate() {
+        room[i] = byte_of(pair[0], pair[1])?;
     }
-    Decoded::Bytes(n)
+    Some(&room[..n])
 }
 
-// How far a line has been read: how many of its bytes are held, and its number.
-#[derive(Clone, Copy)]
-pub struct Held {
-    pub length: usize,
+// The line that is read: the bytes of it that are held, how many those are, and its number.
+// What a listing takes has at most 8,210 bytes, and one more shows that a line is longer.
+#[derive(Drop)]
+pub struct Line {
+    bytes: [u8; 8211],
+    length: usize,
     pub nth: u64,
+    ghost in_room: { length ≤ 8211 },
 }
 
-// The front of a line's buffer that is held.
-pub fn held_part(line: &[u8], n: usize) -> &[u8] {
-    text::part::part_of(line, 0, n)
-}
-
-// A byte more of a line that has not ended; one that the buffer has no room for is dropped.
-pub fn hold(line: &mut [u8], held: Held, b: u8) -> Held {
-    let n = held.length;
-    if n < line.len() {
-        line[n] = b;
-        return Held {
-            length: n + 1,
-            nth: held.nth,
-        };
+impl Line {
+    // The first line, before its first byte.
+    pub fn first() -> Line {
+        Line {
+            bytes: [0; 8211],
+            length: 0,
+            nth: 1,
+        }
     }
-    held
-}
 
-// Where the line behind this one begins.
-pub fn next_line(held: Held) -> Held {
-    let n = held.nth;
-    if n == 18446744073709551615 {
-        return held;
+    // The bytes that are held.
+    pub fn held(&self) -> &[u8] {
+        &self.bytes[..self.length]
     }
-    Held {
-        length: 0,
-        nth: n + 1,
+
+    // A byte more; one that there is no room for is dropped.
+    pub fn hold(&mut self, b: u8) {
+        if self.length < self.bytes.len() {
+            self.bytes[self.length] = b;
+            self.length += 1;
+        }
+    }
+
+    // The next line begins.
+    pub fn next(&mut self) {
+        self.length = 0;
+        self.nth = self.nth.saturating_add(1);
     }
 }

@@ -1,7 +1,7 @@
-// What programs share: lines of hexadecimal read from a stream of bytes, and text put into a page that is written out.
-// Every function takes any bytes and any position, and does nothing where there is no room.
+// What programs share: lines of their input, the bytes that a line of hexadecimal says, and listings, which are put into a page and written out.
 #![tactic(auto)]
 
 pub mod input;
 pub mod lines;
+pub mod listing;
 pub mod output;

@@ -1,4 +1,3 @@
 pub mod AskedLaws
-pub mod RefusalLaws
 pub mod RefusedLaws
 pub mod TimeLaws

@@ -6,14 +6,6 @@ pub mod refusals;
 pub mod times;
 
 use request::ToValue;
-use response::Outcome;
-
-// What a list of refusals comes to: the first that applies, or none.
-#[derive(Clone, Copy)]
-pub enum Refusal {
-    First(Outcome),
-    NoneApplies,
-}
 
 // What a request asks of a record at a clock: the number of its package (3 where it is not listed), the time requested and the time
 // granted, the slot that it presents (8 where it presents none, or none that is live), the length of its body, and what its To says

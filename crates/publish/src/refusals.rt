@@ -1,46 +1,35 @@
 // The refusals, in the order tried. Each function answers the first of its rows that applies, or that none does.
-ghost use Rattle.std.specs.Prelude.{◌≡◌, ◌&&◌, ◌||◌, not, ◌-◌, eqb, ltb, length};
+ghost use Rattle.std.specs.Prelude.{◌≡◌, ◌-◌};
 ghost use Rattle.laws.specs.First.{first_of};
-ghost use Rattle.request.specs.Names.{To, Event};
-ghost use Rattle.request.specs.To.{to_value};
-ghost use Rattle.request.specs.Head.{absent, value_named};
-ghost use Rattle.request.specs.Fields.{has_type, has_match};
-ghost use Rattle.record.specs.Packages.{package_at, is_listed};
+ghost use Rattle.request.specs.Fields.{has_type};
+ghost use Rattle.record.specs.Packages.{package_at};
 ghost use Rattle.record.specs.Places.{live, least_end};
 ghost use Rattle.success.specs.After.{given_tag};
 ghost use Rattle.response.specs.Outcomes.{is_success};
-ghost use Rattle.publish.specs.Refusals.{is_bad_size, size_rows, reading_rows, address_rows, content_rows, room_rows, request_rows, granted};
-ghost use Rattle.publish.specs.Refusal.{refusal_in, is_refusal, or_else};
-ghost use Rattle.publish.specs.Asked.{asked_of};
 ghost use Rattle.response.specs.declared.Outcome.TheVariants.{Granted};
+ghost use Rattle.publish.specs.Refusals.{is_bad_size, is_bad_event, is_unmatched, is_too_brief, is_other_type, is_nothing, is_full, event_of, granted, size_rows, reading_rows, address_rows, content_rows, room_rows, request_rows};
+ghost use Rattle.publish.specs.Refusal.{refusal_in};
 
-use crate::{Asked, Refusal};
+use crate::asking::Trial;
 use record::Record;
-use request::{Head, ToValue, fields, names};
+use request::names::Name;
+use response::fault::Fault;
 use response::{Field, Outcome};
 
 // Whether the request succeeds.
+#[tactic(auto, unfolding(response::specs::Outcomes::is_success))]
 pub fn is_success(o: Outcome) -> bool
     ensures { result ≡ is_success o }
 {
-    match o {
-        Outcome::Silent(_) => false,
-        Outcome::Refused(_, _) => false,
-        Outcome::Granted(_, _) => true,
-    }
+    matches!(o, Outcome::Granted(_, _))
 }
 
 // Whether there are 0 or above 16 records, or the store has another size.
+#[tactic(auto, unfolding(crate::specs::Refusals::is_bad_size))]
 pub fn is_bad_size(records: usize, store: usize) -> bool
     ensures { result ≡ is_bad_size records store }
 {
-    if records == 0 {
-        return true;
-    }
-    if 16 < records {
-        return true;
-    }
-    store != 4096 * records
+    records == 0 || 16 < records || store != 4096 * records
 }
 
 // Before anything is read: the sizes of what is lent, and the clock.
@@ -51,240 +40,200 @@ pub fn sizes_refusal(
     store: usize,
     request: usize,
     clock: u64,
-) -> Refusal
+) -> Result<(), Outcome>
     ensures { result ≡ refusal_in (size_rows buffer records store request clock) }
 {
     if buffer < 4608 {
-        return Refusal::First(Outcome::Silent(1));
+        return Err(Outcome::Silent(Fault::SmallBuffer));
     }
     if is_bad_size(records, store) {
-        return Refusal::First(Outcome::Silent(2));
+        return Err(Outcome::Silent(Fault::BadSize));
     }
     if 4096 < request {
-        return Refusal::First(Outcome::Silent(3));
+        return Err(Outcome::Silent(Fault::LongRequest));
     }
     if 1000000000000 < clock {
-        return Refusal::First(Outcome::Silent(4));
+        return Err(Outcome::Silent(Fault::LateClock));
     }
-    Refusal::NoneApplies
+    Ok(())
 }
 
-// What the request says by itself.
-pub fn reading_refusal(to: ToValue, s: &[u8], h: Head) -> Refusal
-    requires { to ≡ to_value (value_named To s.now h) }
-    ensures { result ≡ refusal_in (reading_rows s.now h) }
-{
-    if !fields::is_readable(h, to) {
-        return Refusal::First(Outcome::Silent(6));
+impl Trial<'_> {
+    // What the request says by itself.
+    #[tactic(auto, unfolding(crate::specs::Refusals::reading_rows, crate::specs::Refusal::refusal_in, crate::specs::Asked::asked_of, request::specs::Head::is_readable))]
+    pub fn reading_refusal(&self) -> Result<(), Outcome>
+        ensures { result ≡ refusal_in (reading_rows self.now.request.text.now self.now.request.head) }
+    {
+        let q = self.request;
+        let method = q.method();
+        if !q.head.is_readable(self.asked.to) || text::runs::are_same(method, b"ACK") {
+            return Err(Outcome::Silent(Fault::Unreadable));
+        }
+        if !text::runs::are_same(method, b"PUBLISH") {
+            return Err(Outcome::Refused(405, Field::Allow));
+        }
+        if q.is_bad_request() {
+            return Err(Outcome::Refused(400, Field::Nothing));
+        }
+        Ok(())
     }
-    let method = fields::method_of(s, h);
-    if text::runs::are_same(method, b"ACK") {
-        return Refusal::First(Outcome::Silent(6));
-    }
-    if !text::runs::are_same(method, b"PUBLISH") {
-        return Refusal::First(Outcome::Refused(405, Field::Allow));
-    }
-    if fields::is_bad_request(s, h) {
-        return Refusal::First(Outcome::Refused(400, Field::Nothing));
-    }
-    Refusal::NoneApplies
-}
 
-// Whether Event is absent or its package not listed.
-fn is_bad_event(event: u8, h: Head) -> bool
-    ensures { result ≡ (absent Event h || not (is_listed event)) }
-{
-    if fields::is_absent(h, names::EVENT) {
-        return true;
+    // Whether Event is absent or its package not listed.
+    #[tactic(auto, unfolding(crate::specs::Refusals::is_bad_event, crate::specs::Asked::asked_of))]
+    fn is_bad_event(&self) -> bool
+        ensures { result ≡ is_bad_event self.now.request.text.now self.now.request.head }
+    {
+        self.request.head.lacks(Name::Event) || !record::packages::is_listed(self.asked.event)
     }
-    !record::packages::is_listed(event)
-}
 
-// Whether a tag is presented that no live publication of the package has.
-fn is_unmatched(slot: u8, h: Head) -> bool
-    ensures { result ≡ (has_match h && not (ltb slot 8)) }
-{
-    if !fields::has_match(h) {
-        return false;
+    // Whether a tag is presented that no live publication of the package has.
+    #[tactic(auto, unfolding(crate::specs::Refusals::is_unmatched, crate::specs::Asked::asked_of))]
+    fn is_unmatched(&self) -> bool
+        ensures { result ≡ is_unmatched self.now.own self.now.clock self.now.request.text.now self.now.request.head }
+    {
+        self.request.head.has_match() && 8 <= self.asked.slot
     }
-    8 <= slot
-}
 
-// The address, its record, and the tag presented.
-pub fn address_refusal(a: Asked, known: bool, r: Record, clock: u64, s: &[u8], h: Head) -> Refusal
-    requires { a ≡ asked_of r clock s.now h }
-    ensures { result ≡ refusal_in (address_rows known r clock s.now h) }
-{
-    if !known {
-        return Refusal::First(Outcome::Refused(404, Field::Nothing));
+    // The address, its record, and the tag presented.
+    #[tactic(auto, unfolding(crate::specs::Refusals::address_rows, crate::specs::Refusal::refusal_in))]
+    pub fn address_refusal(&self, known: bool) -> Result<(), Outcome>
+        ensures { result ≡ refusal_in (address_rows known self.now.own self.now.clock self.now.request.text.now self.now.request.head) }
+    {
+        if !known {
+            return Err(Outcome::Refused(404, Field::Nothing));
+        }
+        if self.is_bad_event() {
+            return Err(Outcome::Refused(489, Field::AllowEvents));
+        }
+        if self.clock < self.own.clock {
+            return Err(Outcome::Refused(500, Field::Nothing));
+        }
+        if self.request.is_bad_match() {
+            return Err(Outcome::Refused(400, Field::Nothing));
+        }
+        if self.is_unmatched() {
+            return Err(Outcome::Refused(412, Field::Nothing));
+        }
+        Ok(())
     }
-    if is_bad_event(a.event, h) {
-        return Refusal::First(Outcome::Refused(489, Field::AllowEvents));
-    }
-    if clock < r.clock {
-        return Refusal::First(Outcome::Refused(500, Field::Nothing));
-    }
-    if fields::is_bad_match(s, h) {
-        return Refusal::First(Outcome::Refused(400, Field::Nothing));
-    }
-    if is_unmatched(a.slot, h) {
-        return Refusal::First(Outcome::Refused(412, Field::Nothing));
-    }
-    Refusal::NoneApplies
-}
 
-// Whether the time requested is above 0 and below the least.
-#[tactic(auto, using(crate::proofs::RefusalLaws::none_above, crate::proofs::RefusalLaws::some_above))]
-fn is_too_brief(event: u8, requested: u32) -> bool
-    ensures { result ≡ (ltb 0 requested && ltb requested (package_at event).least) }
-{
-    if requested == 0 {
-        return false;
+    // Whether the time requested is above 0 and below the least.
+    #[tactic(auto, unfolding(crate::specs::Refusals::is_too_brief, crate::specs::Asked::asked_of))]
+    fn is_too_brief(&self) -> bool
+        ensures { result ≡ is_too_brief self.now.request.text.now self.now.request.head }
+    {
+        0 < self.asked.requested
+            && self.asked.requested < record::packages::least_of(self.asked.event)
     }
-    requested < record::packages::least_of(event)
-}
 
-// Whether the content type is that of a package.
-fn has_type_of(event: u8, s: &[u8], h: Head) -> bool
-    ensures { result ≡ has_type (package_at event).type s.now h }
-{
-    if fields::is_absent(h, names::CONTENT_TYPE) {
-        return false;
+    // Whether the content type is that of the package.
+    #[tactic(auto, unfolding(request::specs::Fields::has_type, crate::specs::Asked::asked_of))]
+    fn has_type(&self) -> bool
+        ensures { result
+            ≡ has_type (package_at (event_of self.now.request.text.now self.now.request.head)).type
+            self.now.request.text.now self.now.request.head }
+    {
+        let q = self.request;
+        !q.head.lacks(Name::ContentType)
+            && record::packages::is_type_of(
+                self.asked.event,
+                text::runs::up_to_parameter(q.value(Name::ContentType)),
+            )
     }
-    record::packages::is_type_of(
-        event,
-        text::runs::up_to_parameter(fields::value_named(s, h, names::CONTENT_TYPE)),
-    )
-}
 
-// Whether there is a body and its content type is absent or another.
-fn is_other_type(event: u8, length: usize, s: &[u8], h: Head) -> bool
-    ensures { result ≡ (ltb 0 length && not (has_type (package_at event).type s.now h)) }
-{
-    if length == 0 {
-        return false;
+    // Whether there is a body and its content type is absent or another.
+    #[tactic(auto, unfolding(crate::specs::Refusals::is_other_type, crate::specs::Asked::asked_of))]
+    fn is_other_type(&self) -> bool
+        ensures { result ≡ is_other_type self.now.request.text.now self.now.request.head }
+    {
+        0 < self.asked.length && !self.has_type()
     }
-    !has_type_of(event, s, h)
-}
 
-// Whether there is no body and no SIP-If-Match.
-fn is_nothing(length: usize, h: Head) -> bool
-    ensures { result ≡ (eqb length 0 && not (has_match h)) }
-{
-    if length != 0 {
-        return false;
+    // Whether there is no body and no SIP-If-Match.
+    #[tactic(auto, unfolding(crate::specs::Refusals::is_nothing, crate::specs::Asked::asked_of))]
+    fn is_nothing(&self) -> bool
+        ensures { result ≡ is_nothing self.now.request.text.now self.now.request.head }
+    {
+        self.asked.length == 0 && !self.request.head.has_match()
     }
-    !fields::has_match(h)
-}
 
-// The time requested, and the body.
-pub fn content_refusal(a: Asked, r: Record, clock: u64, s: &[u8], h: Head) -> Refusal
-    requires { a ≡ asked_of r clock s.now h }
-    ensures { result ≡ refusal_in (content_rows s.now h) }
-{
-    if is_too_brief(a.event, a.requested) {
-        let least = record::packages::least_of(a.event);
-        return Refusal::First(Outcome::Refused(423, Field::MinExpires(least)));
+    // The time requested, and the body.
+    #[tactic(auto, unfolding(crate::specs::Refusals::content_rows, crate::specs::Refusal::refusal_in, crate::specs::Asked::asked_of))]
+    pub fn content_refusal(&self) -> Result<(), Outcome>
+        ensures { result ≡ refusal_in (content_rows self.now.request.text.now self.now.request.head) }
+    {
+        let event = self.asked.event;
+        if self.is_too_brief() {
+            let least = record::packages::least_of(event);
+            return Err(Outcome::Refused(423, Field::MinExpires(least)));
+        }
+        if 512 < self.asked.length {
+            return Err(Outcome::Refused(413, Field::Nothing));
+        }
+        if self.is_other_type() {
+            return Err(Outcome::Refused(415, Field::Accept(event)));
+        }
+        if self.is_nothing() {
+            return Err(Outcome::Refused(400, Field::Nothing));
+        }
+        Ok(())
     }
-    if 512 < a.length {
-        return Refusal::First(Outcome::Refused(413, Field::Nothing));
-    }
-    if is_other_type(a.event, a.length, s, h) {
-        return Refusal::First(Outcome::Refused(415, Field::Accept(a.event)));
-    }
-    if is_nothing(a.length, h) {
-        return Refusal::First(Outcome::Refused(400, Field::Nothing));
-    }
-    Refusal::NoneApplies
-}
 
-// Whether no tag is presented, time is granted, and eight are live.
-fn is_full(granted: u32, r: Record, clock: u64, h: Head) -> bool
-    ensures { result ≡ (not (has_match h) && (ltb 0 granted && eqb (length (live clock r)) 8)) }
-{
-    if fields::has_match(h) {
-        return false;
+    // Whether no tag is presented, time is granted, and eight are live.
+    #[tactic(auto, unfolding(crate::specs::Refusals::is_full, crate::specs::Asked::asked_of))]
+    fn is_full(&self) -> bool
+        ensures { result ≡ is_full self.now.own self.now.clock self.now.request.text.now self.now.request.head }
+    {
+        !self.request.head.has_match()
+            && 0 < self.asked.granted
+            && success::freed::live_count(self.own, self.clock) == 8
     }
-    if granted == 0 {
-        return false;
-    }
-    success::freed::live_count(r, clock) == 8
-}
 
-// The seconds until the least end.
-fn retry_after(r: Record, clock: u64) -> u64
-    ensures { result ≡ least_end (live clock r) - clock }
-{
-    let end = record::slots::least_end(r, clock);
-    if end < clock {
-        return 0;
+    // The seconds until the least end.
+    fn retry_after(&self) -> u64
+        ensures { result ≡ least_end (live self.now.clock self.now.own) - self.now.clock }
+    {
+        record::slots::least_end(self.own, self.clock).saturating_sub(self.clock)
     }
-    end - clock
-}
 
-// What the address has left.
-pub fn room_refusal(a: Asked, r: Record, clock: u64, s: &[u8], h: Head) -> Refusal
-    requires { a ≡ asked_of r clock s.now h }
-    ensures { result ≡ refusal_in (room_rows r clock s.now h) }
-{
-    if r.spent == 4294967295 {
-        return Refusal::First(Outcome::Refused(500, Field::Nothing));
+    // What the address has left.
+    #[tactic(auto, unfolding(crate::specs::Refusals::room_rows, crate::specs::Refusal::refusal_in))]
+    pub fn room_refusal(&self) -> Result<(), Outcome>
+        ensures { result ≡ refusal_in (room_rows self.now.own self.now.clock self.now.request.text.now self.now.request.head) }
+    {
+        if self.own.spent == 4294967295 {
+            return Err(Outcome::Refused(500, Field::Nothing));
+        }
+        if self.is_full() {
+            return Err(Outcome::Refused(503, Field::RetryAfter(self.retry_after())));
+        }
+        Ok(())
     }
-    if is_full(a.granted, r, clock, h) {
-        return Refusal::First(Outcome::Refused(503, Field::RetryAfter(retry_after(r, clock))));
-    }
-    Refusal::NoneApplies
-}
 
-// Whether some refusal applies.
-pub fn is_refusal(f: Refusal) -> bool
-    ensures { result ≡ is_refusal f }
-{
-    match f {
-        Refusal::First(_) => true,
-        Refusal::NoneApplies => false,
+    // The refusals of a request for one address, once the sizes, the clock and the table are good.
+    #[tactic(auto, using(crate::proofs::RefusedLaws::front_err, crate::proofs::RefusedLaws::front_ok), unfolding(crate::specs::Refusals::request_rows))]
+    fn refusal(&self, known: bool) -> Result<(), Outcome>
+        ensures { result ≡ refusal_in (request_rows known self.now.own self.now.clock self.now.request.text.now self.now.request.head) }
+    {
+        self.reading_refusal()?;
+        self.address_refusal(known)?;
+        self.content_refusal()?;
+        self.room_refusal()
     }
-}
 
-// The refusal, or otherwise another outcome.
-pub fn or_else(f: Refusal, other: Outcome) -> Outcome
-    ensures { result ≡ or_else f other }
-{
-    match f {
-        Refusal::First(o) => o,
-        Refusal::NoneApplies => other,
+    // What comes back for it.
+    #[tactic(auto, using(crate::proofs::RefusedLaws::first_err, crate::proofs::RefusedLaws::first_ok), unfolding(success::specs::After::given_tag, success::specs::After::success_number, crate::specs::Asked::asked_of))]
+    pub fn outcome(&self, known: bool) -> Outcome
+        ensures { result
+            ≡ first_of (request_rows known self.now.own self.now.clock self.now.request.text.now self.now.request.head)
+            (Granted (given_tag self.now.own) (granted self.now.request.text.now self.now.request.head)) }
+    {
+        match self.refusal(known) {
+            Err(refusal) => refusal,
+            Ok(()) => Outcome::Granted(
+                tag::given_tag(self.own.start, self.own.spent),
+                self.asked.granted,
+            ),
+        }
     }
-}
-
-// The refusals of a request for one address, once the sizes, the clock and the table are good.
-fn request_refusal(a: Asked, known: bool, r: Record, clock: u64, s: &[u8], h: Head) -> Refusal
-    requires { a ≡ asked_of r clock s.now h }
-    ensures { result ≡ refusal_in (request_rows known r clock s.now h) }
-{
-    let to = a.to;
-    let by_reading = reading_refusal(to, s, h);
-    if is_refusal(by_reading) {
-        return by_reading;
-    }
-    let by_address = address_refusal(a, known, r, clock, s, h);
-    if is_refusal(by_address) {
-        return by_address;
-    }
-    let by_content = content_refusal(a, r, clock, s, h);
-    if is_refusal(by_content) {
-        return by_content;
-    }
-    room_refusal(a, r, clock, s, h)
-}
-
-// What comes back for it.
-pub fn request_outcome(a: Asked, known: bool, r: Record, clock: u64, s: &[u8], h: Head) -> Outcome
-    requires { a ≡ asked_of r clock s.now h }
-    ensures { result ≡ first_of (request_rows known r clock s.now h) (Granted (given_tag r) (granted s.now h)) }
-{
-    let refusal = request_refusal(a, known, r, clock, s, h);
-    or_else(
-        refusal,
-        Outcome::Granted(tag::given_tag(r.start, r.spent), a.granted),
-    )
 }

@@ -1,13 +1,16 @@
 -- A record that holds a well-formed address in its 64 bytes has that address; what the tests of an address say step by step; and two such
 -- records have the same address exactly if all those bytes are the same.
 use mathlib.Core.Path.{◌≡◌, refl, sym, ◌∙◌, ap, ap₂}
-use mathlib.Core.Bool.{Bool, true, false, ◌&&◌, ◌||◌, not, false≢true, and-false}
+use mathlib.Core.Bool.{Bool, true, false, ◌&&◌, ◌||◌, not, false≢true, and-false, and-true, and_assoc}
 use mathlib.Core.List.{List, [], ◌∷◌, ◌++◌}
 use Prim.Native.Nat.{ℕ, zero, suc, ◌-◌, ◌<◌, ◌≤◌}
 use native.Mathlib.Nat.{zero-add}
 use native.Mathlib.Numerals.{unary_clauses}
 use native.Mathlib.Omega.{arith}
-use lib.Dec.{eqb, leb}
+use lib.Dec.{eqb, leb, ltb}
+use lib.Bits.{bit_or, or_zero_l}
+use Rattle.std.specs.Prelude.{fold}
+use Rattle.std.proofs.lemmas.Nat.{le_or_l}
 use lib.ListN.{length, take, drop, replicate, length-append, length-drop, length-replicate, take-append-drop}
 use lib.Seq.{drop-append_seam, length-take-le}
 use borrow.Author.Tests.{leb-true, le-leb, lt-leb, eqb-true, eqb-false, ne_eqb}
@@ -126,17 +129,32 @@ visible_zeros p (x ∷ xs) = go (eqb x 0) (is_visible x) refl refl (visible_zero
     go false false e f deep = rw (f, ne_eqb 0 x (λ o. eqb-false x 0 e (sym o)), some (run not_zero xs)) (and-false (p || true) ∙ sym (and-false (p || false)))
 
 -- a record has an address exactly if a visible byte stands in front, and zeros behind the visible ones
-pub address_seen : (r : Record) (n : ℕ) → length r.address ≤ 64 → n ≡ past is_visible r.address 0 → {b : Bool} → leb 1 n ≡ b
-    → has_address r ≡ (b && every (eqb 0) (drop n r.address))
+pub address_seen : (r : Record) → length r.address ≤ 64
+    → has_address r ≡ (ltb 0 (past is_visible r.address 0) && every (eqb 0) (drop (past is_visible r.address 0) r.address))
 unfolding has_address address_of is_address front
-address_seen r n h ends k =
+address_seen r h =
     let l = r.address in
     let z = run not_zero l in
-    rw (front_length l, le-leb z 64 (omega (arith, run_length not_zero l)), ← k, ends ∙ past_first is_visible l) (joined (leb 1 z) _ _ ∙ visible_zeros false l)
+    rw (front_length l, le-leb z 64 (omega (arith, run_length not_zero l)), past_first is_visible l) (joined (leb 1 z) _ _ ∙ visible_zeros false l)
   where
     joined : (a b c : Bool) → (((a && true) && b) && c) ≡ (a && (b && c))
     joined true b c = refl
     joined false b c = refl
+
+-- the or of two numbers is zero exactly if both are
+or_both : (a x : ℕ) → eqb (bit_or a x) 0 ≡ (eqb a 0 && eqb 0 x)
+or_both zero zero = refl
+or_both zero (suc x) = rw (or_zero_l (suc x)) (ne_eqb (suc x) 0 (λ e. omega arith) ∙ sym (ne_eqb 0 (suc x) (λ e. omega arith)))
+or_both (suc a) x = rw (ne_eqb (bit_or (suc a) x) 0 (λ e. omega (arith, le_or_l (suc a) x)), ne_eqb (suc a) 0 (λ e. omega arith))
+
+or_from : (a : ℕ) (s : List ℕ) → eqb (fold bit_or a s) 0 ≡ (eqb a 0 && every (eqb 0) s)
+unfolding every
+or_from a [] = sym (and-true (eqb a 0))
+or_from a (x ∷ xs) = or_from (bit_or a x) xs ∙ rw (or_both a x) (and_assoc (eqb a 0) (eqb 0 x) (every (eqb 0) xs))
+
+-- and so the or of all bytes
+pub or_zero : (s : List ℕ) → eqb (fold bit_or 0 s) 0 ≡ every (eqb 0) s
+or_zero s = or_from 0 s
 
 -- zeros are copies of zero
 zeros_only : (s : List ℕ) → every (eqb 0) s ≡ true → s ≡ replicate (length s) 0

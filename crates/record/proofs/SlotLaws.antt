@@ -12,6 +12,7 @@ use lib.Seq.{drop-cons}
 use borrow.Author.Tests.{eqb-true, eqb-false, ltb-true, ne_eqb}
 use Rattle.laws.specs.Choose.{pick}
 use Rattle.laws.specs.Lists.{those, place_of}
+use Rattle.laws.proofs.Lists.{place_agree}
 use Rattle.laws.proofs.Tests.{and_right}
 use Rattle.tag.specs.Written.{is_tag_text}
 use Rattle.record.specs.Places.{Place, places_in, places, slots_of, is_live, live, smaller, least_from, least_end, is_of, matching}
@@ -62,19 +63,12 @@ found_none f i w = rw w (add-zero i)
 abbrev pub matches : ℕ → ℕ → List ℕ → Place → Bool
 matches clock event token p = is_of clock event p && is_tag_text token p.slot.tag
 
--- tests that agree everywhere find the same place
-pub place_agree : (f g : Place → Bool) (ps : List Place) → ((p : Place) → f p ≡ g p) → place_of f ps ≡ place_of g ps
-unfolding place_of
-place_agree f g [] h = refl
-place_agree f g (p ∷ ps) h = rw (h p, place_agree f g ps h)
-
 -- the search for it begins with all places
 pub matching_start : (clock event : ℕ) (token : List ℕ) (r : Record)
     → matching clock event token r ≡ found_from (matches clock event token) 0 (places_from r.map 0 r.slots)
 unfolding places_from matching places is_of
 matching_start clock event token r =
-    place_agree _ _ (places_in r.map r.slots)
-    (λ p. sym (and_assoc (is_live clock p) (eqb p.slot.event event) (is_tag_text token p.slot.tag)))
+    place_agree _ _ (λ p. sym (and_assoc (is_live clock p) (eqb p.slot.event event) (is_tag_text token p.slot.tag))) (places_in r.map r.slots)
     ∙ sym (zero-add _)
 
 -- the least end of the live ones of these places and one found before, where 0 is none

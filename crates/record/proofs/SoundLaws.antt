@@ -1,11 +1,11 @@
--- What soundness says of a record, place by place: the test holds exactly where these facts do; and what it asks, one test after the other.
-use mathlib.Core.Path.{◌≡◌, refl, sym, ◌∙◌}
+-- What soundness says of a record, place by place: the test holds exactly where these facts do.
+use mathlib.Core.Path.{◌≡◌, sym}
 use mathlib.Core.Bool.{Bool, true, false, ◌&&◌, ◌||◌, not, false≢true}
 use mathlib.Core.List.{List}
-use Prim.Native.Nat.{ℕ, ◌+◌, ◌-◌, ◌%◌, ◌<◌, ◌≤◌}
+use Prim.Native.Nat.{ℕ, ◌+◌, ◌≤◌}
 use native.Mathlib.Omega.{arith}
-use lib.Dec.{eqb, leb}
-use borrow.Author.Tests.{eqb-true, leb-true, leb-false, le-leb, lt-leb}
+use lib.Dec.{leb}
+use borrow.Author.Tests.{eqb-true, leb-true, le-leb, lt-leb}
 use Rattle.laws.specs.Lists.{every, pairwise}
 use Rattle.laws.proofs.Tests.{and_left, and_right}
 use Rattle.text.specs.Class.{from_to}
@@ -111,31 +111,6 @@ sound_tested r ps u e h =
       apart_tested (λ s. s.edition) ps h.numbers,
     )
 
--- an end up to the clock is in time
-pub in_time_before : (end clock most : ℕ) → end ≤ clock → leb end (clock + most) ≡ true
-in_time_before end clock most h = le-leb end (clock + most) (omega arith)
-
--- an end past the clock is in time where what is left of it is
-pub in_time_left : (end clock most : ℕ) → clock < end → leb (end - clock) most ≡ leb end (clock + most)
-in_time_left end clock most h = go (leb end (clock + most)) refl
-  where
-    go : (b : Bool) → leb end (clock + most) ≡ b → leb (end - clock) most ≡ leb end (clock + most)
-    go true e = le-leb (end - clock) most (omega (arith, leb-true end (clock + most) e)) ∙ sym e
-    go false e = lt-leb (end - clock) most (omega (arith, leb-false end (clock + most) e)) ∙ sym e
-
--- what is asked of a slot, one test after the other
-pub slot_asked : (r : Record) (s : Slot) {a b c d : Bool} → is_listed s.event ≡ a → leb s.length 512 ≡ b
-    → leb s.end (r.clock + (package_at s.event).most) ≡ c → from_to 1 r.spent s.edition ≡ d
-    → is_sound_slot r s ≡ (a && (b && (c && (d && is_given r.start r.spent s.tag))))
-unfolding is_sound_slot
-slot_asked r s p q t u = rw (p, q, t, u)
-
--- what is asked of a record
-pub record_asked : (r : Record) {b c d : Bool} → r.used ≡ 1 → has_address r ≡ b → leb r.clock latest_clock ≡ c
-    → every (is_sound_slot r) (occupied r) ≡ d → is_sound r ≡ (b && (c && (d && slots_differ (occupied r))))
-unfolding is_sound is_in_use
-record_asked r p q t u = rw (u, t, q, p)
-
 -- a record that is not in use is sound
 pub unused_sound : (r : Record) → r.used ≡ 0 → is_sound r ≡ true
 unfolding is_sound is_in_use
@@ -149,12 +124,6 @@ unmarked_unsound r p q = rw (lt-leb r.used 1 (omega (arith, p, q)))
 -- two slots differ in tag and in body number
 abbrev pub differs : Slot → Slot → Bool
 differs s t = tags_differ s t && numbers_differ s t
-
--- what is asked of a slot with another: is it occupied, are the tags the same, are the body numbers
-pub other_slot : (m : ℕ) (s t : Slot) {a b : Bool} → eqb (m % 2) 1 ≡ a → eqb s.tag t.tag ≡ b
-    → (not (eqb (m % 2) 1) || differs s t) ≡ (not a || (not b && not (eqb s.edition t.edition)))
-unfolding tags_differ numbers_differ
-other_slot m s t p q = rw (p, q)
 
 -- tags and body numbers are asked together
 pub slots_asked : (ss : List Slot) → slots_differ ss ≡ pairwise differs ss

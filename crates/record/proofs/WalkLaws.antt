@@ -1,13 +1,15 @@
 -- The laws of a question about a list that a loop walks: something is asked of the first element, where that counts, and then the
 -- question of the rest. So are the occupied slots of a record walked.
-use mathlib.Core.Path.{◌≡◌, refl, sym, ◌∙◌, ap}
+use mathlib.Core.Path.{◌≡◌, refl, ◌∙◌, ap}
 use mathlib.Core.Bool.{Bool, true, false, ◌&&◌, ◌||◌, not}
 use mathlib.Core.List.{List, [], ◌∷◌}
-use Prim.Native.Nat.{ℕ, ◌+◌, ◌/◌, ◌%◌, ◌<◌, ◌≤◌}
+use Prim.Native.Nat.{ℕ, ◌+◌, ◌-◌, ◌/◌, ◌%◌, ◌<◌, ◌≤◌}
 use native.Mathlib.Numerals.{add-one}
 use lib.Dec.{eqb}
-use lib.ListN.{length, get_or, drop, drop_of_length-le}
-use lib.Seq.{drop-cons}
+use lib.ListN.{length, get_or, take, drop, drop_of_length-le, length-drop}
+use lib.Seq.{drop-cons, take_all}
+use native.Mathlib.Omega.{arith}
+use borrow.Author.Tests.{eq-eqb, eqb-true}
 use Rattle.laws.specs.Choose.{pick}
 use Rattle.laws.specs.Lists.{every, pairwise, those}
 use Rattle.record.specs.Places.{Place, places_in, slots_of}
@@ -20,6 +22,14 @@ four true true c d = refl
 four true false true d = refl
 four true false false d = refl
 four false b c d = refl
+
+-- what is asked where two numbers are the same holds where they are not, or it does
+free_or : (a b : ℕ) (t : Bool) → (a ≡ b → t ≡ true) → (not (eqb a b) || t) ≡ true
+free_or a b t e = go (eqb a b) refl
+  where
+    go : (u : Bool) → eqb a b ≡ u → (not u || t) ≡ true
+    go true h = e (eqb-true a b h)
+    go false h = refl
 
 module _ {A : Type 0} where
   -- one turn, whatever the question is
@@ -83,16 +93,32 @@ module _ (ss : List Slot) (d : Slot) (m i : ℕ) (h : i < length ss) where
   unfolding places_in
   slots_from = rw (add-one i, drop-cons ss i d h) (slots_first _ _)
 
-  -- is every occupied slot so: the one at place i is asked, where it is occupied, and the answer a is b
-  pub each_slot : (f : Slot → Bool) {a b : Bool} → a ≡ (not (eqb (m % 2) 1) || f (get_or ss i d)) → a ≡ b
-      → every f (slots_in m (drop i ss)) ≡ (b && every f (slots_in (m / 2) (drop (i + 1) ss)))
-  each_slot f e k = every_turn (eqb (m % 2) 1) (get_or ss i d) _ _ slots_from f (sym e ∙ k)
+  -- is every occupied slot so: where the one at place i is occupied and so, or not occupied, it is asked of those behind it
+  pub each_slot : (f : Slot → Bool) → (m % 2 ≡ 1 → f (get_or ss i d) ≡ true)
+      → every f (slots_in m (drop i ss)) ≡ every f (slots_in (m / 2) (drop (i + 1) ss))
+  each_slot f e = every_turn (eqb (m % 2) 1) (get_or ss i d) _ _ slots_from f (free_or (m % 2) 1 (f (get_or ss i d)) e)
+
+  -- and where it is occupied and not so, the answer is no
+  pub no_slot : (f : Slot → Bool) → m % 2 ≡ 1 → f (get_or ss i d) ≡ false → every f (slots_in m (drop i ss)) ≡ false
+  no_slot f o e = every_turn (eqb (m % 2) 1) (get_or ss i d) _ _ slots_from f {b = false} (rw (eq-eqb (m % 2) 1 o, e))
+
+  -- what stands behind place i
+  behind : take (length ss - (i + 1)) (drop (i + 1) ss) ≡ drop (i + 1) ss
+  behind =
+      let rest : length (drop (i + 1) ss) ≤ length ss - (i + 1) = omega (arith, length-drop (i + 1) ss) in
+      take_all _ (drop (i + 1) ss) rest
 
   -- are the occupied slots so pairwise: the one at place i is asked with each that follows
-  pub pair_of_slots : (f : Slot → Slot → Bool) {a b : Bool}
-      → a ≡ (not (eqb (m % 2) 1) || every (f (get_or ss i d)) (slots_in (m / 2) (drop (i + 1) ss))) → a ≡ b
-      → pairwise f (slots_in m (drop i ss)) ≡ (b && pairwise f (slots_in (m / 2) (drop (i + 1) ss)))
-  pair_of_slots f e k = pairwise_turn (eqb (m % 2) 1) (get_or ss i d) _ _ slots_from f (sym e ∙ k)
+  pub pair_of_slots : (f : Slot → Slot → Bool)
+      → (m % 2 ≡ 1 → every (f (get_or ss i d)) (slots_in (m / 2) (take (length ss - (i + 1)) (drop (i + 1) ss))) ≡ true)
+      → pairwise f (slots_in m (drop i ss)) ≡ pairwise f (slots_in (m / 2) (drop (i + 1) ss))
+  pair_of_slots f e = pairwise_turn (eqb (m % 2) 1) (get_or ss i d) _ _ slots_from f (free_or (m % 2) 1 _ (λ o. rw behind at (e o)))
+
+  pub no_pair : (f : Slot → Slot → Bool) → m % 2 ≡ 1
+      → every (f (get_or ss i d)) (slots_in (m / 2) (take (length ss - (i + 1)) (drop (i + 1) ss))) ≡ false → pairwise f (slots_in m (drop i ss)) ≡ false
+  no_pair f o e =
+      let n : every (f (get_or ss i d)) (slots_in (m / 2) (drop (i + 1) ss)) ≡ false = rw behind at e in
+      pairwise_turn (eqb (m % 2) 1) (get_or ss i d) _ _ slots_from f {b = false} (rw (eq-eqb (m % 2) 1 o, n))
 
 -- past the last place no slot is occupied
 pub slots_end : (ss : List Slot) (m i : ℕ) → length ss ≤ i → slots_in m (drop i ss) ≡ []

@@ -1,5 +1,5 @@
 // Addresses: which are well formed, how a record holds one, and when a text is that address.
-ghost use Rattle.std.specs.Prelude.{◌≡◌, not, ◌≤◌, eqb, length, drop};
+ghost use Rattle.std.specs.Prelude.{◌≡◌, not, ◌≤◌, eqb, length, drop, slice_index};
 ghost use Rattle.laws.specs.Lists.{every, same};
 ghost use Rattle.text.specs.Runs.{front};
 ghost use Rattle.record.specs.Address.{is_address, padded, has_address, same_address};
@@ -8,31 +8,20 @@ use crate::Record;
 use text::class::Kind;
 
 // Whether every byte from a position on is zero. It does not stop at the first that is not, so that the compiler can take sixteen at a time.
+#[tactic(auto, using(std::proofs::lemmas::Grind::common_steps, crate::proofs::AddressLaws::or_zero))]
 fn is_zero_from(s: &[u8], from: usize) -> bool
+    requires { from ≤ length s.now }
     ensures { result ≡ every (eqb 0) (drop from s.now) }
 {
-    let mut zero = true;
-    let mut i = from;
-    while i < s.len() {
-        if s[i] != 0 {
-            zero = false;
-        }
-        i += 1;
-    }
-    zero
+    s[from..].iter().fold(0, |all, b| all | *b) == 0
 }
 
 // Whether a text is an address: 1 to 64 bytes, each 33 to 126.
+#[tactic(auto, using(crate::proofs::AddressLaws::address_none, crate::proofs::AddressLaws::address_long, crate::proofs::AddressLaws::address_run))]
 pub fn is_address(a: &[u8]) -> bool
     ensures { result ≡ is_address a.now }
 {
-    if a.len() < 1 {
-        return false;
-    }
-    if 64 < a.len() {
-        return false;
-    }
-    text::runs::past_kind(a, 0, Kind::Visible) == a.len()
+    1 <= a.len() && a.len() <= 64 && text::runs::past(a, 0, Kind::Visible) == a.len()
 }
 
 // An address in its 64 bytes, zero past its end.
@@ -46,61 +35,41 @@ pub fn padded_address(a: &[u8]) -> [u8; 64]
 }
 
 // Whether the address of a record is well formed, and zero past its end.
-pub fn has_address(r: Record) -> bool
-    ensures { result ≡ has_address r }
+#[tactic(auto, using(crate::proofs::AddressLaws::address_seen, text::proofs::RunLaws::past_within))]
+pub fn has_address(r: &Record) -> bool
+    ensures { result ≡ has_address r.now }
 {
+    // Copied first: with a reference into the record all of it is copied.
     let address = r.address;
-    let n = text::runs::past_kind(&address, 0, Kind::Visible);
-    if n == 0 {
-        return false;
-    }
-    is_zero_from(&address, n)
+    let n = text::runs::past(&address, 0, Kind::Visible);
+    0 < n && is_zero_from(&address, n)
+}
+
+// The byte at a position; 0 past the end.
+fn byte_or_zero(s: &[u8], i: usize) -> u8
+    ensures { result ≡ slice_index s.now i }
+{
+    s.get(i).copied().unwrap_or(0)
 }
 
 // Whether a text is the address that a record's 64 bytes hold, up to their first zero.
+#[tactic(auto, using(crate::proofs::CompareLaws::held_end))]
 pub fn is_held(a: &[u8], held: &[u8]) -> bool
     ensures { result ≡ same_address a.now (front (λ b. not (eqb b 0)) held.now) }
 {
-    let mut i = 0;
-    while i < a.len() {
-        if held.len() <= i {
+    for (i, b) in a.iter().enumerate() {
+        let h = byte_or_zero(held, i);
+        if h == 0 || *b != h {
             return false;
         }
-        let b = held[i];
-        if b == 0 {
-            return false;
-        }
-        if a[i] != b {
-            return false;
-        }
-        i += 1;
     }
-    if held.len() <= i {
-        return true;
-    }
-    held[i] == 0
+    byte_or_zero(held, a.len()) == 0
 }
 
-// Whether two texts of 64 bytes are the same. It does not stop at the first that differs, so that the compiler can take sixteen at a time.
-fn same_64(a: &[u8], b: &[u8]) -> bool
-    requires a_len { length a.now ≡ 64 }
-    requires b_len { length b.now ≡ 64 }
-    ensures { result ≡ same a.now b.now }
-{
-    let mut alike: u8 = 0;
-    let mut i: usize = 0;
-    while i < 64 {
-        if a[i] == b[i] {
-            alike += 1;
-        }
-        i += 1;
-    }
-    alike == 64
-}
-
-// Whether two addresses have the same 64 bytes.
+// Whether two addresses have the same 64 bytes. `==` of arrays stops nowhere: it takes sixteen bytes at a time.
+#[tactic(auto, using(crate::proofs::CompareLaws::same_pointwise))]
 pub fn same_bytes(a: &[u8; 64], b: &[u8; 64]) -> bool
     ensures { result ≡ same a.now b.now }
 {
-    same_64(a, b)
+    a == b
 }

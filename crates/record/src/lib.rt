@@ -11,6 +11,7 @@ pub mod sound;
 #[repr(C)]
 #[derive(Clone, Copy)]
 pub struct Slot {
+    // A byte of the C record, in which any value may be lent: so a package is a number here and in `packages`, and no enum.
     pub event: u8,
     pub tag: u32,
     pub end: u64,

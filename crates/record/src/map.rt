@@ -2,7 +2,7 @@
 ghost use Rattle.std.specs.Prelude.{◌≡◌, ◌<◌};
 ghost use Rattle.record.specs.Map.{lowest_free_in, occupied_in, with_place, without_place};
 
-// The lowest place that is not occupied; 8 where all are.
+// The lowest place that is not occupied; 8 where all are, which is what document 01's form gives, the trailing zeros of the complement.
 pub fn lowest_free(map: u8) -> u32
     ensures { result ≡ lowest_free_in 8 map }
 {

@@ -1,5 +1,5 @@
 // The packages: constant arrays by package number.
-ghost use Rattle.std.specs.Prelude.{◌≡◌};
+ghost use Rattle.std.specs.Prelude.{◌≡◌, slice_index};
 ghost use Rattle.text.specs.Names.{same_text};
 ghost use Rattle.record.specs.Packages.{package_at, package_named, is_listed};
 
@@ -9,13 +9,15 @@ const DEFAULT: [u32; 3] = [3600, 3600, 600];
 
 const MOST: [u32; 3] = [3600, 7200, 3600];
 
-fn wide(b: u8) -> usize
-    ensures { result ≡ b }
+// What a row of times has for a package; 0 where it is not listed.
+fn of_three(row: &[u32; 3], event: u8) -> u32
+    ensures { result ≡ slice_index row.now event }
 {
-    b as usize
+    row.get(usize::from(event)).copied().unwrap_or(0)
 }
 
 // Whether a package is listed under that number.
+#[tactic(auto, unfolding(crate::specs::Packages::is_listed, crate::specs::Packages::packages))]
 pub fn is_listed(event: u8) -> bool
     ensures { result ≡ is_listed event }
 {
@@ -23,66 +25,54 @@ pub fn is_listed(event: u8) -> bool
 }
 
 // The least time of a package; 0 where it is not listed.
+#[tactic(auto, unfolding(crate::specs::Packages::package_at, crate::specs::Packages::packages))]
 pub fn least_of(event: u8) -> u32
     ensures { result ≡ (package_at event).least }
 {
-    let e = wide(event);
-    if 3 <= e {
-        return 0;
-    }
-    LEAST[e]
+    of_three(&LEAST, event)
 }
 
 // The default time of a package; 0 where it is not listed.
+#[tactic(auto, unfolding(crate::specs::Packages::package_at, crate::specs::Packages::packages))]
 pub fn default_of(event: u8) -> u32
     ensures { result ≡ (package_at event).default }
 {
-    let e = wide(event);
-    if 3 <= e {
-        return 0;
-    }
-    DEFAULT[e]
+    of_three(&DEFAULT, event)
 }
 
 // The most time of a package; 0 where it is not listed.
+#[tactic(auto, unfolding(crate::specs::Packages::package_at, crate::specs::Packages::packages))]
 pub fn most_of(event: u8) -> u32
     ensures { result ≡ (package_at event).most }
 {
-    let e = wide(event);
-    if 3 <= e {
-        return 0;
-    }
-    MOST[e]
+    of_three(&MOST, event)
 }
 
 // The number of the package of that name; 3 where none has it.
+#[tactic(auto, unfolding(crate::specs::Packages::package_named, crate::specs::Packages::packages, laws::specs::Lists::place_of))]
 pub fn package_named(name: &[u8]) -> u8
     ensures { result ≡ package_named name.now }
 {
     if text::runs::are_same(name, b"presence") {
-        return 0;
+        0
+    } else if text::runs::are_same(name, b"message-summary") {
+        1
+    } else if text::runs::are_same(name, b"dialog") {
+        2
+    } else {
+        3
     }
-    if text::runs::are_same(name, b"message-summary") {
-        return 1;
-    }
-    if text::runs::are_same(name, b"dialog") {
-        return 2;
-    }
-    3
 }
 
 // Whether a text is the content type of a package, in either case; an empty one where it is not listed.
+#[tactic(auto, unfolding(crate::specs::Packages::package_at, crate::specs::Packages::packages))]
 pub fn is_type_of(event: u8, t: &[u8]) -> bool
     ensures { result ≡ same_text t.now (package_at event).type }
 {
-    if event == 0 {
-        return text::names::same_text(t, b"application/pidf+xml");
+    match event {
+        0 => text::names::same_text(t, b"application/pidf+xml"),
+        1 => text::names::same_text(t, b"application/simple-message-summary"),
+        2 => text::names::same_text(t, b"application/dialog-info+xml"),
+        _ => text::names::same_text(t, b""),
     }
-    if event == 1 {
-        return text::names::same_text(t, b"application/simple-message-summary");
-    }
-    if event == 2 {
-        return text::names::same_text(t, b"application/dialog-info+xml");
-    }
-    text::names::same_text(t, b"")
 }

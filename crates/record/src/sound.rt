@@ -9,143 +9,92 @@ ghost use Rattle.record.specs.Sound.{is_sound_slot, tags_differ, numbers_differ,
 use crate::{Record, Slot, address, packages};
 
 // Whether a slot's end is at most the latest clock plus its package's most.
-fn ends_in_time(clock: u64, s: Slot) -> bool
-    ensures { result ≡ leb s.end (clock + (package_at s.event).most) }
+fn ends_in_time(clock: u64, s: &Slot) -> bool
+    ensures { result ≡ leb s.now.end (clock + (package_at s.now.event).most) }
 {
-    let most = packages::most_of(s.event) as u64;
-    if s.end <= clock {
-        return true;
-    }
-    s.end - clock <= most
+    let most = u64::from(packages::most_of(s.event));
+    s.end.saturating_sub(clock) <= most
 }
 
 // Whether a body number is one from 1 to spent.
 fn is_spent(spent: u32, edition: u32) -> bool
     ensures { result ≡ from_to 1 spent edition }
 {
-    if edition < 1 {
-        return false;
-    }
-    edition <= spent
+    1 <= edition && edition <= spent
 }
 
 // Whether a slot is a sound one of a record.
-pub fn is_sound_slot(r: Record, s: Slot) -> bool
-    ensures { result ≡ is_sound_slot r s }
+#[tactic(auto, unfolding(crate::specs::Sound::is_sound_slot))]
+pub fn is_sound_slot(r: &Record, s: &Slot) -> bool
+    ensures { result ≡ is_sound_slot r.now s.now }
 {
-    if !packages::is_listed(s.event) {
-        return false;
-    }
-    if 512 < s.length {
-        return false;
-    }
-    if !ends_in_time(r.clock, s) {
-        return false;
-    }
-    if !is_spent(r.spent, s.edition) {
-        return false;
-    }
-    tag::is_given(r.start, r.spent, s.tag)
-}
-
-// Whether a slot, with its bit lowest in the map, is free or sound.
-fn is_free_or_sound(map: u8, r: Record, s: Slot) -> bool
-    ensures { result ≡ (not (eqb (map % 2) 1) || is_sound_slot r s) }
-{
-    if map % 2 != 1 {
-        return true;
-    }
-    is_sound_slot(r, s)
+    packages::is_listed(s.event)
+        && s.length <= 512
+        && ends_in_time(r.clock, s)
+        && is_spent(r.spent, s.edition)
+        && tag::is_given(r.start, r.spent, s.tag)
 }
 
 // Whether every occupied slot is sound.
-pub fn slots_sound(r: Record) -> bool
-    ensures { result ≡ every (is_sound_slot r) (occupied r) }
+pub fn slots_sound(r: &Record) -> bool
+    ensures { result ≡ every (is_sound_slot r.now) (occupied r.now) }
 {
-    let slots = r.slots;
     let mut m = r.map;
-    let mut i: usize = 0;
-    while i < 8 {
-        let s = slots[i];
-        if !is_free_or_sound(m, r, s) {
+    for s in &r.slots {
+        if m % 2 == 1 && !is_sound_slot(r, s) {
             return false;
         }
-        m = m / 2;
-        i += 1;
+        m /= 2;
     }
     true
 }
 
-// Whether a slot, with its bit lowest in the map, is free or differs from another in tag and body number.
-fn is_free_or_other(map: u8, s: Slot, t: Slot) -> bool
-    ensures { result ≡ (not (eqb (map % 2) 1) || (tags_differ s t && numbers_differ s t)) }
+// Whether two slots have the same tag or the same body number.
+#[tactic(auto, unfolding(crate::specs::Sound::tags_differ, crate::specs::Sound::numbers_differ))]
+fn are_alike(s: &Slot, t: &Slot) -> bool
+    ensures { result ≡ not (tags_differ s.now t.now && numbers_differ s.now t.now) }
 {
-    if map % 2 != 1 {
-        return true;
-    }
-    if s.tag == t.tag {
-        return false;
-    }
-    s.edition != t.edition
+    s.tag == t.tag || s.edition == t.edition
 }
 
-// Whether a slot, with its bit lowest in the map, is free or differs from each occupied one behind it; those begin at `from`.
-fn is_free_or_apart(map: u8, s: Slot, slots: [Slot; 8], from: usize) -> bool
-    ensures { result ≡ (not (eqb (map % 2) 1) || every (λ t. tags_differ s t && numbers_differ s t) (slots_of (those (λ p. p.taken) (places_in (map / 2) (drop from slots))))) }
+// Whether a slot differs in tag and body number from each occupied one of those behind it; the map's lowest bit is for the first of these.
+fn is_apart(s: &Slot, map: u8, behind: &[Slot]) -> bool
+    ensures { result ≡ every (λ t. tags_differ s.now t && numbers_differ s.now t) (slots_of (those (λ p. p.taken) (places_in map behind.now))) }
 {
-    if map % 2 != 1 {
-        return true;
-    }
-    let mut m = map / 2;
-    let mut i = from;
-    while i < 8 {
-        let t = slots[i];
-        if !is_free_or_other(m, s, t) {
+    let mut m = map;
+    for t in behind {
+        if m % 2 == 1 && are_alike(s, t) {
             return false;
         }
-        m = m / 2;
-        i += 1;
+        m /= 2;
     }
     true
 }
 
 // Whether tags differ between occupied slots, and body numbers too.
-pub fn slots_differ(r: Record) -> bool
-    ensures { result ≡ slots_differ (occupied r) }
+pub fn slots_differ(r: &Record) -> bool
+    ensures { result ≡ slots_differ (occupied r.now) }
 {
-    let slots = r.slots;
+    let slots: &[Slot] = &r.slots;
     let mut m = r.map;
-    let mut i: usize = 0;
-    while i < 8 {
-        let s = slots[i];
-        i += 1;
-        if !is_free_or_apart(m, s, slots, i) {
+    for (i, s) in slots.iter().enumerate() {
+        if m % 2 == 1 && !is_apart(s, m / 2, &slots[i + 1..]) {
             return false;
         }
-        m = m / 2;
+        m /= 2;
     }
     true
 }
 
 // Whether a record by itself is sound; one that is not in use is.
-#[tactic(auto, using(crate::proofs::SoundLaws::unmarked_unsound))]
-pub fn is_sound(r: Record) -> bool
-    ensures { result ≡ is_sound r }
+#[tactic(auto, unfolding(crate::specs::Sound::is_sound, crate::specs::Places::is_in_use))]
+pub fn is_sound(r: &Record) -> bool
+    ensures { result ≡ is_sound r.now }
 {
-    if r.used == 0 {
-        return true;
-    }
-    if r.used != 1 {
-        return false;
-    }
-    if !address::has_address(r) {
-        return false;
-    }
-    if 1000000000000 < r.clock {
-        return false;
-    }
-    if !slots_sound(r) {
-        return false;
-    }
-    slots_differ(r)
+    r.used == 0
+        || r.used == 1
+            && address::has_address(r)
+            && r.clock <= 1000000000000
+            && slots_sound(r)
+            && slots_differ(r)
 }

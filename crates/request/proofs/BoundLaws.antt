@@ -13,9 +13,7 @@ use Rattle.laws.proofs.Tests.{and_left, and_right, and_both, every_cons, every_t
 use Rattle.laws.proofs.Parts.{part_length}
 use Rattle.request.specs.declared.Line.{Line}
 use Rattle.request.specs.declared.FirstLine.{FirstLine}
-use Rattle.request.specs.declared.FirstLine.TheVariants.{Read, Broken}
-use Rattle.request.specs.declared.HeaderLine.{HeaderLine}
-use Rattle.request.specs.declared.HeaderLine.TheVariants.{Header, NoHeader}
+use Rattle.std.proofs.Common.{Option, Some, None}
 use Rattle.request.specs.FirstLine.{crlf_at, first_line}
 use Rattle.request.specs.HeaderLines.{header_line, name_of, whole_line, copied, Headers, headers, unreadable, behind, from_line, header_lines}
 use Rattle.request.specs.Names.{Via, From, To, Call-ID, CSeq, name_number}
@@ -42,20 +40,20 @@ module _ (s : List ℕ) (P : ℕ → List Line → Type 0) (none : (at : ℕ) �
       front l p (headers ls rest) h = more at l ls p h
       front l p unreadable h = none at
 
-      go : (b : Bool) (h : HeaderLine) → header_line s at ≡ h → ((next : ℕ) → P next (lines_in (header_lines k s next)))
+      go : (b : Bool) (h : Option Line) → header_line s at ≡ h → ((next : ℕ) → P next (lines_in (header_lines k s next)))
           → P at (lines_in (pick b (headers [] (at + 2)) (from_line (header_lines k s) h)))
       go true h e rest = none at
-      go false (Header l) e rest = front l (header_line_within s at e) (header_lines k s (l.end + 2)) (rest (l.end + 2))
-      go false NoHeader e rest = none at
+      go false (Some l) e rest = front l (header_line_within s at e) (header_lines k s (l.end + 2)) (rest (l.end + 2))
+      go false None e rest = none at
 
   -- and of the lines of the request
   lines_of_lem : (Q : List Line → Type 0) → ((at : ℕ) (ls : List Line) → P at ls → Q ls) → Q (lines_of s)
   unfolding lines_of lines_after
   lines_of_lem Q h = go (first_line s)
     where
-      go : (f : FirstLine) → Q (lines_after s f)
-      go (Read m u next) = h next (lines_in (header_lines 64 s next)) (lines_all 64 next)
-      go Broken = h 0 [] (none 0)
+      go : (f : Option FirstLine) → Q (lines_after s f)
+      go (Some f) = h f.next (lines_in (header_lines 64 s f.next)) (lines_all 64 f.next)
+      go None = h 0 [] (none 0)
 
 -- nothing is counted for a smaller number
 far : (k n w : ℕ) → n < k → pick (eqb k n) w 0 ≡ 0

@@ -2,8 +2,7 @@
 use mathlib.Core.Path.{◌≡◌, refl, sym, ◌∙◌, ap}
 use mathlib.Core.Bool.{Bool, true, false}
 use mathlib.Core.List.{List, [], ◌∷◌, ◌++◌, append_assoc, append-nil}
-use Prim.Native.Nat.{ℕ, zero, suc, ◌+◌, ◌-◌, ◌<◌}
-use native.Mathlib.Omega.{arith}
+use Prim.Native.Nat.{ℕ, zero, suc, ◌+◌}
 use lib.Dec.{eqb, eqb-zero-suc, eqb-suc-zero, eqb-suc-suc}
 use lib.ListN.{get_or, set, replicate}
 use Rattle.laws.specs.Choose.{pick}
@@ -11,11 +10,13 @@ use Rattle.laws.specs.Lists.{those}
 use Rattle.request.specs.declared.Line.{Line}
 use Rattle.request.specs.declared.Seen.{Seen}
 use Rattle.request.specs.declared.Head.{Head}
-use Rattle.request.specs.declared.HeaderLine.TheVariants.{Header, NoHeader}
+use Rattle.std.proofs.Common.{Some, None}
 use Rattle.request.specs.FirstLine.{crlf_at}
 use Rattle.request.specs.HeaderLines.{header_line, name_of, Headers, headers, unreadable, behind, from_line, header_lines}
 use Rattle.request.specs.Names.{name_number}
 use Rattle.request.specs.Head.{zero_seen, lines_named, seen_in, seen_of, not_built, with_headers}
+use Rattle.request.proofs.LineLaws.{crlf_within, line_begins, line_fits}
+use Rattle.request.proofs.NumberedLaws.{number_within}
 use Rattle.request.specs.Noted.{noted_once, noted, noted_all}
 
 -- one line more behind the others
@@ -81,10 +82,6 @@ unfoldable pub goes_on : List ℕ → ℕ → ℕ → List Seen → Headers → 
 goes_on s m u seen (headers ls rest) = record { built = true; method = m; uri = u; rest = rest; seen = noted_all s seen ls }
 goes_on s m u seen unreadable = not_built
 
--- a number that is not 0 is one more than its predecessor
-some : (k : ℕ) → 0 < k → k ≡ suc (k - 1)
-some k h = omega arith
-
 module _ (s : List ℕ) (m u : ℕ) where
   -- before the first line no name is seen
   pub goes_start : (hs : Headers) → with_headers s m u hs ≡ goes_on s m u (replicate 11 zero_seen) hs
@@ -115,17 +112,26 @@ module _ (s : List ℕ) (m u : ℕ) where
     unfolding goes_on header_lines
     goes_none z e = rw (z, e)
 
-    module _ (more : 0 < k) (e : crlf_at s i ≡ false) where
-      -- nor where something else stands there
-      pub goes_bad : header_line s i ≡ NoHeader → goes_on s m u seen (header_lines k s i) ≡ not_built
-      unfolding goes_on header_lines from_line
-      goes_bad h = rw (some k more, e, h)
+    -- nor where something else stands there
+    pub goes_bad : header_line s i ≡ None → crlf_at s i ≡ false → goes_on s m u seen (header_lines k s i) ≡ not_built
+    unfolding goes_on header_lines from_line
+    goes_bad h e = go k
+      where
+        go : (k : ℕ) → goes_on s m u seen (header_lines k s i) ≡ not_built
+        go zero = rw e
+        go (suc k) = rw (e, h)
 
-      -- a header line is noted in the entry of its name, and they go on behind it
-      pub goes_line : {l : Line} {n : ℕ} {f : Seen} → header_line s i ≡ Header l → n ≡ name_number (name_of s l)
-          → f ≡ noted_once (get_or seen n zero_seen) l
-          → goes_on s m u seen (header_lines k s i) ≡ goes_on s m u (set seen n f) (header_lines (k - 1) s (l.end + 2))
-      unfolding header_lines from_line noted
-      goes_line {l} {n} {f} h a b =
-          let q : suc (k - 1) - 1 ≡ k - 1 = omega arith in
-          rw (b, a, some k more, e, h, q) (goes_behind seen l (header_lines (k - 1) s (l.end + 2)))
+  -- a header line is noted in the entry of its name, and they go on behind it
+  pub goes_line : (seen : List Seen) (k j i : ℕ) {l : Line} {n : ℕ} {f : Seen} → k ≡ suc j → header_line s i ≡ Some l
+      → n ≡ name_number (name_of s l) → f ≡ noted_once (get_or seen n zero_seen) l
+      → goes_on s m u seen (header_lines k s i) ≡ goes_on s m u (set seen n f) (header_lines j s (l.end + 2))
+  unfolding header_lines from_line noted
+  goes_line seen k j i {l} {n} {f} q h a b = go (crlf_at s i) refl
+    where
+      go : (t : Bool) → crlf_at s i ≡ t
+          → goes_on s m u seen (header_lines k s i) ≡ goes_on s m u (set seen n f) (header_lines j s (l.end + 2))
+      go true e = let z : None ≡ Some l = sym (line_begins s i e) ∙ h in cc
+      go false e = rw (b, a, q, e, h) (goes_behind seen l (header_lines j s (l.end + 2)))
+
+-- the laws that a pass over the lines goes by
+pub ruleset going = (goes_start, goes_end, goes_none, goes_bad, line_fits, crlf_within, number_within)

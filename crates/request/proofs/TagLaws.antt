@@ -1,12 +1,12 @@
 -- The laws of a parameter that is named tag.
 use mathlib.Core.Path.{◌≡◌, refl, sym, ◌∙◌, ap}
-use mathlib.Core.Bool.{Bool, true, false, ◌&&◌, ◌||◌, not, false≢true}
+use mathlib.Core.Bool.{Bool, true, false, ◌&&◌, not, false≢true}
 use mathlib.Core.List.{List, [], ◌∷◌}
-use Prim.Native.Nat.{ℕ, ◌+◌, ◌-◌, ◌<◌, ◌≤◌}
+use Prim.Native.Nat.{ℕ, ◌+◌, ◌-◌}
 use native.Mathlib.Nat.{add-zero}
 use native.Mathlib.Omega.{arith}
 use lib.Dec.{eqb}
-use lib.ListN.{length, get_or, take, drop, drop_of_length-le}
+use lib.ListN.{length, get_or, take, drop}
 use lib.Seq.{drop-drop, get_or-drop}
 use borrow.Author.Tests.{eq-eqb, ne_eqb, eqb-true, eqb-false, not-true}
 use Rattle.laws.specs.Bytes.{bytes}
@@ -15,40 +15,30 @@ use Rattle.laws.proofs.Tests.{every_head, every_tail}
 use Rattle.text.specs.Class.{is_blank}
 use Rattle.text.specs.Runs.{run, past, without}
 use Rattle.text.specs.Names.{lower, lowered, same_text}
-use Rattle.request.specs.declared.Quote.{Quote}
 use Rattle.request.specs.declared.Quote.TheVariants.{Outside}
-use Rattle.request.specs.To.{next_quote, shown_in, outside_quotes, is_tag, some_tag}
-use Rattle.request.proofs.ToLaws.{stays, leaves, shown_on}
+use Rattle.request.specs.To.{shown_in, outside_quotes, is_tag, some_tag}
+use Rattle.request.proofs.ToLaws.{stays, shows}
 
 -- the text behind a run that begins at a position is what stands from there on without it
-past_without : (f : ℕ → Bool) (s : List ℕ) (i a : ℕ) → a ≡ past f s i → without f (drop i s) ≡ drop a s
+past_without : (f : ℕ → Bool) (s : List ℕ) (i : ℕ) → without f (drop i s) ≡ drop (past f s i) s
 unfolding past without
-past_without f s i a e = rw e (drop-drop (run f (drop i s)) i s)
+past_without f s i = drop-drop (run f (drop i s)) i s
 
 -- the byte in front of what stands from a position on is the one there
 first_there : (s : List ℕ) (i : ℕ) → byte_at (drop i s) 0 ≡ byte_at s i
 unfolding byte_at
 first_there s i = get_or-drop i s 0 256 ∙ ap (λ (n : ℕ). get_or s n 256) (add-zero i)
 
-module _ (s : List ℕ) (i a : ℕ) (blanks : a ≡ past is_blank s i) (p : List ℕ) (three : p ≡ part s a (a + 3)) where
-  -- the three bytes behind the blanks are compared with the name
-  tag_name : same_text (take 3 (without is_blank (drop i s))) (bytes "tag") ≡ same_text p (bytes "tag")
-  unfolding part
-  tag_name =
-      let n : a + 3 - a ≡ 3 = omega arith in
-      ap (λ (t : List ℕ). same_text t (bytes "tag")) (rw (past_without is_blank s i a blanks, three, n))
-
-  -- where they are another name, it is no tag
-  pub tag_off : same_text p (bytes "tag") ≡ false → is_tag (drop i s) ≡ false
-  unfolding is_tag
-  tag_off e = rw (tag_name, e)
-
-  -- where they are that name, it is a tag exactly if an equals sign stands behind the blanks that follow
-  pub tag_equals : same_text p (bytes "tag") ≡ true → (b x : ℕ) → b ≡ past is_blank s (a + 3) → x ≡ byte_at s b
-      → eqb x 61 ≡ is_tag (drop i s)
-  unfolding is_tag
-  tag_equals e b x w y =
-      rw (tag_name, e, past_without is_blank s i a blanks, drop-drop 3 a s, past_without is_blank s (a + 3) b w, first_there s b, y)
+-- a parameter is named tag exactly if the three bytes behind its blanks are that name, and an equals sign stands behind the blanks that follow
+pub tag_is : (p : List ℕ)
+    → is_tag p ≡ (same_text (part p (past is_blank p 0) (past is_blank p 0 + 3)) (bytes "tag")
+    && eqb (byte_at p (past is_blank p (past is_blank p 0 + 3))) 61)
+unfolding is_tag part
+tag_is p =
+    let a : ℕ = past is_blank p 0 in
+    let n : a + 3 - a ≡ 3 = omega arith in
+    let w : without is_blank p ≡ drop a p = past_without is_blank p 0 in
+    rw (w, n, drop-drop 3 a p, past_without is_blank p (a + 3), first_there p (past is_blank p (a + 3)))
 
 -- a blank is no quote mark
 blank_mark : (x : ℕ) → is_blank x ≡ true → x ≡ 34 → ⊥
@@ -94,35 +84,30 @@ named_shown (y ∷ ys) e (x ∷ xs) =
     go false k w = rw k
 
 -- a text that begins outside quotes is a tag exactly if what is outside quotes is
-tag_shown : (s : List ℕ) → is_tag (outside_quotes Outside s) ≡ is_tag s
+pub tag_shown : (s : List ℕ) → is_tag (outside_quotes Outside s) ≡ is_tag s
 unfolding is_tag named every lower
 tag_shown s = rw (without_shown s) (named_shown (bytes "tag") refl (without is_blank s))
 
--- at the end of the text no parameter is left
-pub tag_end : (q : Quote) (s : List ℕ) (i : ℕ) → length s ≤ i → some_tag (outside_quotes q (drop i s)) ≡ false
-unfolding some_tag outside_quotes
-tag_end q s i h = rw (drop_of_length-le s h)
+-- a text without a byte has no parameter
+pub some_none : some_tag [] ≡ false
+unfolding some_tag
+some_none = refl
 
-module _ (q r : Quote) (s : List ℕ) (i : ℕ) (h : i < length s) (next : r ≡ next_quote q (get_or s i 0))
-    (x : ℕ) (shows : x ≡ shown_in q (get_or s i 0)) where
+module _ (x : ℕ) (xs : List ℕ) where
   -- a byte that opens no parameter is passed over
-  pub tag_on : (x ≡ 59 → ⊥) → some_tag (outside_quotes q (drop i s)) ≡ some_tag (outside_quotes r (drop (i + 1) s))
+  pub some_other : (x ≡ 59 → ⊥) → some_tag (x ∷ xs) ≡ some_tag xs
   unfolding some_tag
-  tag_on n = rw (shown_on q r s i h next, ← shows, ne_eqb x 59 n)
+  some_other n = rw (ne_eqb x 59 n)
 
-  module _ (opens : x ≡ 59) where
-    -- a byte that opens a parameter stands outside quotes: behind it the text is looked at from outside them
-    tag_opens : some_tag (outside_quotes q (drop i s)) ≡ (is_tag (drop (i + 1) s) || some_tag (outside_quotes r (drop (i + 1) s)))
-    unfolding some_tag
-    tag_opens =
-        let out : r ≡ Outside = next ∙ leaves q (get_or s i 0) x (λ e. omega arith) shows in
-        rw (shown_on q r s i h next, ← shows, eq-eqb x 59 opens, out, tag_shown (drop (i + 1) s))
+  -- one that opens a parameter named tag decides it
+  pub some_here : x ≡ 59 → is_tag xs ≡ true → some_tag (x ∷ xs) ≡ true
+  unfolding some_tag
+  some_here e t = rw (eq-eqb x 59 e, t)
 
-    -- a parameter that is named tag decides it
-    pub tag_here : is_tag (drop (i + 1) s) ≡ true → some_tag (outside_quotes q (drop i s)) ≡ true
-    tag_here e = rw (tag_opens, e)
+  -- another parameter leaves it to those behind
+  pub some_later : x ≡ 59 → is_tag xs ≡ false → some_tag (x ∷ xs) ≡ some_tag xs
+  unfolding some_tag
+  some_later e t = rw (eq-eqb x 59 e, t)
 
-    -- another leaves it to those behind
-    pub tag_other : is_tag (drop (i + 1) s) ≡ false
-        → some_tag (outside_quotes q (drop i s)) ≡ some_tag (outside_quotes r (drop (i + 1) s))
-    tag_other e = rw (tag_opens, e)
+-- the laws that a walk through the parameters goes by
+pub ruleset steps = (shows, tag_shown, some_none, some_other, some_here, some_later)

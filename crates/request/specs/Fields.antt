@@ -1,13 +1,12 @@
 -- What the fields of a readable request say, as the rows of the refusals ask.
 -- Rules 6.19 to 6.26, 7.8, 7.12 of docs/RULES.md.
-use Rattle.std.specs.Prelude.{ℕ, ◌+◌, ◌-◌, Bool, ◌&&◌, ◌||◌, not, List, ltb, length, take, drop}
+use Rattle.std.specs.Prelude.{ℕ, ◌+◌, ◌-◌, Bool, ◌&&◌, ◌||◌, not, List, ltb, length, take, drop, Option}
 use Rattle.laws.specs.Choose.{pick}
 use Rattle.laws.specs.Lists.{part, same}
 use Rattle.text.specs.Class.{is_digit, is_blank, is_plain}
 use Rattle.text.specs.Runs.{past, front, is_one_token}
 use Rattle.text.specs.Number.{number_of, is_fit, value_or}
 use Rattle.text.specs.Names.{same_text}
-use Rattle.text.specs.declared.number.Num.{Num}
 use Rattle.request.specs.Names.{CSeq, Content-Length, Content-Type, Event, Expires, SIP-If-Match}
 use Rattle.request.specs.Head.{method_of, absent, repeated, value_named}
 use Rattle.request.specs.declared.Head.{Head}
@@ -27,7 +26,7 @@ unfoldable pub there : List ℕ → Head → ℕ
 there s h = length s - h.rest
 
 -- what Content-Length says, at most what is there
-unfoldable pub content_length : List ℕ → Head → Num
+unfoldable pub content_length : List ℕ → Head → Option ℕ
 content_length s h = number_of (there s h) (value_named Content-Length s h)
 
 -- Content-Length is absent, or stands once with digits of at most what is there
@@ -36,7 +35,7 @@ content_length_fits s h =
     not (repeated Content-Length h) && (absent Content-Length h || is_fit (content_length s h))
 
 -- what Expires says
-unfoldable pub expires : List ℕ → Head → Num
+unfoldable pub expires : List ℕ → Head → Option ℕ
 expires s h = number_of 4294967295 (value_named Expires s h)
 
 -- Expires is absent, or stands once with digits of at most 4294967295

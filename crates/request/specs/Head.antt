@@ -1,13 +1,12 @@
 -- What the first line and the header lines of a request say, and when the request is readable.
 -- Rules 2.2, 6.8, 6.10, 6.11, 6.17 of docs/RULES.md.
-use Rattle.std.specs.Prelude.{ℕ, ◌+◌, Bool, true, false, ◌&&◌, not, List, [], ◌∷◌, map, eqb, ltb, get_or, replicate}
+use Rattle.std.specs.Prelude.{ℕ, ◌+◌, Bool, true, false, ◌&&◌, not, List, [], ◌∷◌, map, eqb, ltb, get_or, replicate, Option, Some, None}
 use Rattle.laws.specs.Lists.{part, those}
 use Rattle.request.specs.FirstLine.{first_line}
 use Rattle.request.specs.HeaderLines.{Headers, headers, unreadable, header_lines, name_of, value_of}
 use Rattle.request.specs.Names.{Via, From, To, Call-ID, CSeq, name_number}
 use Rattle.request.specs.To.{to_value}
 use Rattle.request.specs.declared.FirstLine.{FirstLine}
-use Rattle.request.specs.declared.FirstLine.TheVariants.{Read, Broken}
 use Rattle.request.specs.declared.Line.{Line}
 use Rattle.request.specs.declared.Seen.{Seen}
 use Rattle.request.specs.declared.Head.{Head}
@@ -24,9 +23,9 @@ unfoldable pub lines_in : Headers → List Line
 lines_in (headers ls rest) = ls
 lines_in unreadable = []
 
-unfoldable pub lines_after : List ℕ → FirstLine → List Line
-lines_after s (Read m u next) = lines_in (header_lines 64 s next)
-lines_after s Broken = []
+unfoldable pub lines_after : List ℕ → Option FirstLine → List Line
+lines_after s (Some f) = lines_in (header_lines 64 s f.next)
+lines_after s None = []
 
 -- the header lines of a request; none where they cannot be read
 unfoldable pub lines_of : List ℕ → List Line
@@ -58,9 +57,9 @@ unfoldable pub with_headers : List ℕ → ℕ → ℕ → Headers → Head
 with_headers s m u (headers ls rest) = record { built = true; method = m; uri = u; rest = rest; seen = seen_of s ls }
 with_headers s m u unreadable = not_built
 
-unfoldable pub with_first_line : List ℕ → FirstLine → Head
-with_first_line s (Read m u next) = with_headers s m u (header_lines 64 s next)
-with_first_line s Broken = not_built
+unfoldable pub with_first_line : List ℕ → Option FirstLine → Head
+with_first_line s (Some f) = with_headers s f.method f.uri (header_lines 64 s f.next)
+with_first_line s None = not_built
 
 -- first line, at most 64 header lines, an empty line
 unfoldable pub head_of : List ℕ → Head

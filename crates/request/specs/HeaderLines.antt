@@ -1,24 +1,22 @@
 -- The header lines of a request and the empty line that ends them.
 -- Rules 6.5 to 6.8, 9.3 of docs/RULES.md.
-use Rattle.std.specs.Prelude.{ℕ, zero, suc, ◌+◌, ◌&&◌, List, [], ◌∷◌, ◌++◌, eqb, ltb}
+use Rattle.std.specs.Prelude.{ℕ, zero, suc, ◌+◌, ◌&&◌, List, [], ◌∷◌, ◌++◌, eqb, ltb, Option, Some, None}
 use Rattle.laws.specs.Choose.{pick}
 use Rattle.laws.specs.Lists.{byte_at, part}
 use Rattle.text.specs.Class.{is_token, is_blank, is_value}
 use Rattle.text.specs.Runs.{past, trim}
 use Rattle.request.specs.FirstLine.{crlf_at}
 use Rattle.request.specs.declared.Line.{Line}
-use Rattle.request.specs.declared.HeaderLine.{HeaderLine}
-use Rattle.request.specs.declared.HeaderLine.TheVariants.{Header, NoHeader}
 
 -- a token, spaces or tabs or none, a colon, the value, CR LF (so none begins with a space or tab)
-unfoldable pub header_line : List ℕ → ℕ → HeaderLine
+unfoldable pub header_line : List ℕ → ℕ → Option Line
 header_line s at =
     let name = past is_token s at in
     let colon = past is_blank s name in
     let end = past is_value s (colon + 1) in
     pick (ltb at name && (eqb (byte_at s colon) 58 && crlf_at s end))
-    (Header (record { start = at; name = name; colon = colon; end = end }))
-    NoHeader
+    (Some (record { start = at; name = name; colon = colon; end = end }))
+    None
 
 -- the name of a line
 unfoldable pub name_of : List ℕ → Line → List ℕ
@@ -52,9 +50,9 @@ behind l (headers ls body) = headers (l ∷ ls) body
 behind l unreadable = unreadable
 
 -- the lines from one that was looked for, and from what follows it
-unfoldable pub from_line : (ℕ → Headers) → HeaderLine → Headers
-from_line rest (Header l) = behind l (rest (l.end + 2))
-from_line rest NoHeader = unreadable
+unfoldable pub from_line : (ℕ → Headers) → Option Line → Headers
+from_line rest (Some l) = behind l (rest (l.end + 2))
+from_line rest None = unreadable
 
 -- the header lines from a position, at most so many; an empty line ends them
 unfoldable pub header_lines : ℕ → List ℕ → ℕ → Headers

@@ -4,6 +4,8 @@ use Rattle.std.specs.Prelude.{ℕ, List, [], ◌∷◌}
 use Rattle.laws.specs.Bytes.{bytes}
 use Rattle.laws.specs.Lists.{place_of}
 use Rattle.text.specs.Names.{is_named}
+use Rattle.request.specs.declared.names.Name.{Name}
+use Rattle.request.specs.declared.names.Name.TheVariants as name
 
 -- the numbers that we give them
 abbrev pub Via : ℕ
@@ -54,3 +56,16 @@ spellings =
 -- names match in either case: the number of the name that a text spells; 10 where it is none of ours
 unfoldable pub name_number : List ℕ → ℕ
 name_number text = place_of (λ n. is_named n text) spellings
+
+-- the number of a name
+abbrev pub number_of : Name → ℕ
+number_of name.Via = Via
+number_of name.From = From
+number_of name.To = To
+number_of name.CallId = Call-ID
+number_of name.CSeq = CSeq
+number_of name.ContentType = Content-Type
+number_of name.ContentLength = Content-Length
+number_of name.Event = Event
+number_of name.Expires = Expires
+number_of name.SipIfMatch = SIP-If-Match

@@ -1,277 +1,197 @@
 // What the fields of a request say, as the refusals ask.
-ghost use Rattle.std.specs.Prelude.{◌≡◌, ◌&&◌, ◌<◌};
-ghost use Rattle.text.specs.Number.{is_fit};
+#![tactic(auto, using(crate::proofs::FieldLaws::field_parts), unfolding(text::specs::Number::is_fit, text::specs::Number::value_or, crate::specs::All::all_request))]
+
+ghost use Rattle.std.specs.Prelude.{◌≡◌, ◌&&◌};
+ghost use Rattle.request.specs.Names.{number_of};
 ghost use Rattle.request.specs.Head.{method_of, uri_of, seen_at, absent, once, repeated, value_named, is_closed, stand_as_they_must};
 ghost use Rattle.request.specs.Fields.{is_cSeq, cseq_fits, there, content_length, content_length_fits, expires, expires_fits, is_bad_request, body_length, body, event_text, has_match, match_text, is_bad_match};
 
-use crate::{Head, Seen, ToValue, header_line, names};
+use crate::names::Name;
+use crate::{Head, Request, Seen, ToValue, header_line, names};
 use text::class::Kind;
-use text::number::Num;
+use text::number::decimal;
+use text::part::part_of;
+use text::runs;
 
-// The method.
-pub fn method_of(s: &[u8], h: Head) -> &[u8]
-    ensures { result.now ≡ method_of s.now h }
-{
-    text::part::part_of(s, 0, h.method)
-}
-
-// The Request-URI.
-pub fn uri_of(s: &[u8], h: Head) -> &[u8]
-    ensures { result.now ≡ uri_of s.now h }
-{
-    let method = h.method;
-    let uri = h.uri;
-    if uri <= method {
-        return &s[0..0];
+impl Head {
+    // How often a name stands, and its first line.
+    pub fn seen(self, name: Name) -> Seen
+        ensures { result ≡ seen_at (number_of name) self }
+    {
+        self.seen[names::number(name)]
     }
-    text::part::part_of(s, method + 1, uri)
-}
 
-// How often a name stands, and its first line.
-pub fn seen_at(h: Head, n: usize) -> Seen
-    requires { n < 10 }
-    ensures { result ≡ seen_at n h }
-{
-    let seen = h.seen;
-    seen[n]
-}
-
-pub fn is_absent(h: Head, n: usize) -> bool
-    requires { n < 10 }
-    ensures { result ≡ absent n h }
-{
-    let f = seen_at(h, n);
-    f.times == 0
-}
-
-pub fn is_once(h: Head, n: usize) -> bool
-    requires { n < 10 }
-    ensures { result ≡ once n h }
-{
-    let f = seen_at(h, n);
-    f.times == 1
-}
-
-pub fn is_repeated(h: Head, n: usize) -> bool
-    requires { n < 10 }
-    ensures { result ≡ repeated n h }
-{
-    let f = seen_at(h, n);
-    1 < f.times
-}
-
-// The value of the first line of a name.
-pub fn value_named(s: &[u8], h: Head, n: usize) -> &[u8]
-    requires { n < 10 }
-    ensures { result.now ≡ value_named n s.now h }
-{
-    let f = seen_at(h, n);
-    let l = f.line;
-    header_line::value_of(s, l)
-}
-
-// Whether Via stands at least once, From, To, Call-ID and CSeq exactly once.
-pub fn stand_as_they_must(h: Head) -> bool
-    ensures { result ≡ stand_as_they_must h }
-{
-    if is_absent(h, names::VIA) {
-        return false;
+    // Whether a name stands nowhere.
+    pub fn lacks(self, name: Name) -> bool
+        ensures { result ≡ absent (number_of name) self }
+    {
+        self.seen(name).times == 0
     }
-    if !is_once(h, names::FROM) {
-        return false;
-    }
-    if !is_once(h, names::TO) {
-        return false;
-    }
-    if !is_once(h, names::CALL_ID) {
-        return false;
-    }
-    is_once(h, names::CSEQ)
-}
 
-// Whether no quote and no < of a To value is unclosed.
-fn is_closed(t: ToValue) -> bool
-    ensures { result ≡ is_closed t }
-{
-    match t {
-        ToValue::Tagged => true,
-        ToValue::Untagged => true,
-        ToValue::Unclosed => false,
+    // Whether a name stands exactly once.
+    pub fn has_one(self, name: Name) -> bool
+        ensures { result ≡ once (number_of name) self }
+    {
+        self.seen(name).times == 1
     }
-}
 
-// Whether the request is readable, where its To value says so much of its tag.
-pub fn is_readable(h: Head, to: ToValue) -> bool
-    ensures { result ≡ (h.built && (stand_as_they_must h && is_closed to)) }
-{
-    if !h.built {
-        return false;
+    // Whether a name stands more than once.
+    pub fn repeats(self, name: Name) -> bool
+        ensures { result ≡ repeated (number_of name) self }
+    {
+        1 < self.seen(name).times
     }
-    if !stand_as_they_must(h) {
-        return false;
+
+    // Whether Via stands at least once, From, To, Call-ID and CSeq exactly once.
+    pub fn stands_as_it_must(self) -> bool
+        ensures { result ≡ stand_as_they_must self }
+    {
+        !self.lacks(Name::Via)
+            && self.has_one(Name::From)
+            && self.has_one(Name::To)
+            && self.has_one(Name::CallId)
+            && self.has_one(Name::CSeq)
     }
-    is_closed(to)
+
+    // Whether the request is readable, where its To value says so much of its tag.
+    pub fn is_readable(self, to: ToValue) -> bool
+        ensures { result ≡ (self.built && (stand_as_they_must self && is_closed to)) }
+    {
+        self.built && self.stands_as_it_must() && !matches!(to, ToValue::Unclosed)
+    }
+
+    // Whether SIP-If-Match is given.
+    pub fn has_match(self) -> bool
+        ensures { result ≡ has_match self }
+    {
+        !self.lacks(Name::SipIfMatch)
+    }
 }
 
 // Whether a CSeq value is digits, blanks, the method.
 fn is_cseq(method: &[u8], v: &[u8]) -> bool
     ensures { result ≡ is_cSeq method.now v.now }
 {
-    let d = text::runs::past_kind(v, 0, Kind::Digit);
-    let b = text::runs::past_kind(v, d, Kind::Blank);
-    if !is_fit(text::number::decimal(&v[..d], 2147483647)) {
-        return false;
-    }
-    if b <= d {
-        return false;
-    }
-    text::runs::are_same(&v[b..], method)
+    let d = runs::past(v, 0, Kind::Digit);
+    let b = runs::past(v, d, Kind::Blank);
+    decimal(&v[..d], 2147483647).is_some() && d < b && runs::are_same(&v[b..], method)
 }
 
-// Whether it is a number.
-fn is_fit(n: Num) -> bool
-    ensures { result ≡ is_fit n }
-{
-    match n {
-        Num::Value(_) => true,
-        Num::Unfit => false,
+impl<'a> Request<'a> {
+    // The method.
+    pub fn method(self) -> &'a [u8]
+        ensures { result.now ≡ method_of self.entry.text.now self.entry.head }
+    {
+        part_of(self.text, 0, self.head.method)
     }
-}
 
-// Whether CSeq fits the method.
-pub fn cseq_fits(s: &[u8], h: Head) -> bool
-    ensures { result ≡ cseq_fits s.now h }
-{
-    is_cseq(method_of(s, h), value_named(s, h, names::CSEQ))
-}
+    // The Request-URI.
+    pub fn uri(self) -> &'a [u8]
+        ensures { result.now ≡ uri_of self.entry.text.now self.entry.head }
+    {
+        part_of(self.text, self.head.method.saturating_add(1), self.head.uri)
+    }
 
-// How many bytes are there behind the empty line.
-pub fn bytes_there(s: &[u8], h: Head) -> usize
-    ensures { result ≡ there s.now h }
-{
-    let rest = h.rest;
-    if s.len() < rest {
-        return 0;
+    // The value of the first line of a name.
+    pub fn value(self, name: Name) -> &'a [u8]
+        ensures { result.now ≡ value_named (number_of name) self.entry.text.now self.entry.head }
+    {
+        header_line::value_of(self.text, self.head.seen(name).line)
     }
-    s.len() - rest
-}
 
-// What Content-Length says, at most what is there.
-pub fn content_length(s: &[u8], h: Head) -> Num
-    ensures { result ≡ content_length s.now h }
-{
-    let most = bytes_there(s, h) as u64;
-    text::number::decimal(value_named(s, h, names::CONTENT_LENGTH), most)
-}
+    // Whether CSeq fits the method.
+    pub fn cseq_fits(self) -> bool
+        ensures { result ≡ cseq_fits self.entry.text.now self.entry.head }
+    {
+        is_cseq(self.method(), self.value(Name::CSeq))
+    }
 
-// Whether Content-Length is absent, or stands once and fits.
-pub fn content_length_fits(s: &[u8], h: Head) -> bool
-    ensures { result ≡ content_length_fits s.now h }
-{
-    if is_repeated(h, names::CONTENT_LENGTH) {
-        return false;
+    // How many bytes are there behind the empty line.
+    pub fn bytes_there(self) -> usize
+        ensures { result ≡ there self.entry.text.now self.entry.head }
+    {
+        self.text.len().saturating_sub(self.head.rest)
     }
-    if is_absent(h, names::CONTENT_LENGTH) {
-        return true;
-    }
-    is_fit(content_length(s, h))
-}
 
-// What Expires says.
-pub fn expires_of(s: &[u8], h: Head) -> Num
-    ensures { result ≡ expires s.now h }
-{
-    text::number::decimal(value_named(s, h, names::EXPIRES), 4294967295)
-}
+    // What Content-Length says, at most what is there.
+    pub fn content_length(self) -> Option<u64>
+        ensures { result ≡ content_length self.entry.text.now self.entry.head }
+    {
+        decimal(self.value(Name::ContentLength), self.bytes_there() as u64)
+    }
 
-// Whether Expires is absent, or stands once and fits.
-pub fn expires_fits(s: &[u8], h: Head) -> bool
-    ensures { result ≡ expires_fits s.now h }
-{
-    if is_repeated(h, names::EXPIRES) {
-        return false;
+    // Whether Content-Length is absent, or stands once and fits.
+    pub fn content_length_fits(self) -> bool
+        ensures { result ≡ content_length_fits self.entry.text.now self.entry.head }
+    {
+        !self.head.repeats(Name::ContentLength)
+            && (self.head.lacks(Name::ContentLength) || self.content_length().is_some())
     }
-    if is_absent(h, names::EXPIRES) {
-        return true;
-    }
-    is_fit(expires_of(s, h))
-}
 
-// The first 400 of the list.
-pub fn is_bad_request(s: &[u8], h: Head) -> bool
-    ensures { result ≡ is_bad_request s.now h }
-{
-    if !cseq_fits(s, h) {
-        return true;
+    // What Expires says.
+    pub fn expires(self) -> Option<u64>
+        ensures { result ≡ expires self.entry.text.now self.entry.head }
+    {
+        decimal(self.value(Name::Expires), 4294967295)
     }
-    if !content_length_fits(s, h) {
-        return true;
-    }
-    if !expires_fits(s, h) {
-        return true;
-    }
-    if is_repeated(h, names::EVENT) {
-        return true;
-    }
-    is_repeated(h, names::CONTENT_TYPE)
-}
 
-// How long the body is.
-pub fn body_length(s: &[u8], h: Head) -> usize
-    ensures { result ≡ body_length s.now h }
-{
-    if is_absent(h, names::CONTENT_LENGTH) {
-        return bytes_there(s, h);
+    // Whether Expires is absent, or stands once and fits.
+    pub fn expires_fits(self) -> bool
+        ensures { result ≡ expires_fits self.entry.text.now self.entry.head }
+    {
+        !self.head.repeats(Name::Expires)
+            && (self.head.lacks(Name::Expires) || self.expires().is_some())
     }
-    let Num::Value(n) = content_length(s, h) else {
-        return 0;
-    };
-    n as usize
-}
 
-// The body, of so many bytes: that part of the request.
-pub fn body_of(s: &[u8], h: Head, n: usize) -> &[u8]
-    requires { n ≡ body_length s.now h }
-    ensures { result.now ≡ body s.now h }
-{
-    let rest = h.rest;
-    if s.len() < rest {
-        return &s[0..0];
+    // The first 400 of the list.
+    pub fn is_bad_request(self) -> bool
+        ensures { result ≡ is_bad_request self.entry.text.now self.entry.head }
+    {
+        !self.cseq_fits()
+            || !self.content_length_fits()
+            || !self.expires_fits()
+            || self.head.repeats(Name::Event)
+            || self.head.repeats(Name::ContentType)
     }
-    let e = rest + n;
-    text::part::part_of(s, rest, e)
-}
 
-// The package's bytes.
-pub fn event_text(s: &[u8], h: Head) -> &[u8]
-    ensures { result.now ≡ event_text s.now h }
-{
-    text::runs::up_to_parameter(value_named(s, h, names::EVENT))
-}
-
-// Whether SIP-If-Match is given.
-pub fn has_match(h: Head) -> bool
-    ensures { result ≡ has_match h }
-{
-    !is_absent(h, names::SIP_IF_MATCH)
-}
-
-// The tag presented.
-pub fn match_text(s: &[u8], h: Head) -> &[u8]
-    ensures { result.now ≡ match_text s.now h }
-{
-    value_named(s, h, names::SIP_IF_MATCH)
-}
-
-// Whether SIP-If-Match is repeated or not one token.
-pub fn is_bad_match(s: &[u8], h: Head) -> bool
-    ensures { result ≡ is_bad_match s.now h }
-{
-    if !has_match(h) {
-        return false;
+    // How long the body is.
+    pub fn body_length(self) -> usize
+        ensures { result ≡ body_length self.entry.text.now self.entry.head }
+    {
+        if self.head.lacks(Name::ContentLength) {
+            self.bytes_there()
+        } else {
+            self.content_length().unwrap_or(0) as usize
+        }
     }
-    if is_repeated(h, names::SIP_IF_MATCH) {
-        return true;
+
+    // The body, of so many bytes: that part of the request.
+    pub fn body(self, n: usize) -> &'a [u8]
+        requires { n ≡ body_length self.text.now self.head }
+        ensures { result.now ≡ body self.entry.text.now self.entry.head }
+    {
+        part_of(self.text, self.head.rest, self.head.rest + n)
     }
-    !text::runs::is_one_token(match_text(s, h))
+
+    // The package's bytes.
+    pub fn event_text(self) -> &'a [u8]
+        ensures { result.now ≡ event_text self.entry.text.now self.entry.head }
+    {
+        runs::up_to_parameter(self.value(Name::Event))
+    }
+
+    // The tag presented.
+    pub fn match_text(self) -> &'a [u8]
+        ensures { result.now ≡ match_text self.entry.text.now self.entry.head }
+    {
+        self.value(Name::SipIfMatch)
+    }
+
+    // Whether SIP-If-Match is repeated or not one token.
+    pub fn is_bad_match(self) -> bool
+        ensures { result ≡ is_bad_match self.entry.text.now self.entry.head }
+    {
+        self.head.has_match()
+            && (self.head.repeats(Name::SipIfMatch) || !runs::is_one_token(self.match_text()))
+    }
 }

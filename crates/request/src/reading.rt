@@ -2,98 +2,80 @@
 ghost use Rattle.std.specs.Prelude.{◌≡◌};
 ghost use Rattle.text.specs.Class.{class_table};
 ghost use Rattle.request.specs.HeaderLines.{header_lines};
-ghost use Rattle.request.specs.Head.{zero_seen, not_built, with_headers, head_of};
+ghost use Rattle.request.specs.Head.{not_built, with_headers, head_of};
 ghost use Rattle.request.specs.Noted.{noted_once};
 
-use crate::{FirstLine, Head, HeaderLine, Line, Seen, first_line, header_line, names};
-
-// A name not seen.
-fn zero_seen() -> Seen
-    ensures { result ≡ zero_seen }
-{
-    let line = Line {
-        start: 0,
-        name: 0,
-        colon: 0,
-        end: 0,
-    };
-    Seen { times: 0, line }
-}
+use crate::{FirstLine, Head, Line, Request, Seen, first_line, header_line, names};
 
 // What is said of a request that is not built as it must be.
 fn not_built() -> Head
     ensures { result ≡ not_built }
 {
-    let z = zero_seen();
-    Head {
-        built: false,
-        method: 0,
-        uri: 0,
-        rest: 0,
-        seen: [z; 11],
-    }
+    Head::default()
 }
 
 // A name with one line more: its first line is kept.
+#[tactic(auto, unfolding(crate::specs::Noted::noted_once))]
 fn noted_once(f: Seen, l: Line) -> Seen
     ensures { result ≡ noted_once f l }
 {
     if f.times == 0 {
-        return Seen { times: 1, line: l };
+        Seen { times: 1, line: l }
+    } else {
+        Seen {
+            times: 2,
+            line: f.line,
+        }
     }
-    let mut next = f;
-    next.times = 2;
-    next
 }
 
 // The header lines from a position, at most 64, up to the empty line, behind a first line that is read.
-fn header_lines(s: &[u8], method: usize, uri: usize, at: usize, classes: &[u8; 256]) -> Head
+// No header line begins with CR LF, so what ends them is the empty line, or is wrong.
+#[tactic(auto, using(crate::proofs::ReadingLaws::going))]
+fn header_lines(s: &[u8], first: FirstLine, classes: &[u8; 256]) -> Head
     requires { classes.now ≡ class_table }
-    ensures { result ≡ with_headers s.now method uri (header_lines 64 s.now at) }
+    ensures { result ≡ with_headers s.now first.method first.uri (header_lines 64 s.now first.next) }
 {
-    let z = zero_seen();
-    let mut seen = [z; 11];
-    let mut i = at;
-    let mut left: u32 = 64;
-    while 0 < left {
-        if first_line::crlf_at(s, i) {
-            return Head {
-                built: true,
-                method,
-                uri,
-                rest: i + 2,
-                seen,
-            };
-        }
-        let HeaderLine::Header(l) = header_line::header_line(s, i, classes) else {
-            return not_built();
+    let mut seen = [Seen::default(); 11];
+    let mut at = first.next;
+    for _ in 0..64u32 {
+        let Some(line) = header_line::header_line(s, at, classes) else {
+            break;
         };
-        let n = names::name_number(header_line::name_of(s, l));
-        let f = seen[n];
-        seen[n] = noted_once(f, l);
-        let end = l.end;
-        i = end + 2;
-        left -= 1;
+        let n = names::name_number(header_line::name_of(s, line));
+        seen[n] = noted_once(seen[n], line);
+        at = line.end + 2;
     }
-    if first_line::crlf_at(s, i) {
-        return Head {
-            built: true,
-            method,
-            uri,
-            rest: i + 2,
-            seen,
-        };
+    if !first_line::crlf_at(s, at) {
+        return not_built();
     }
-    not_built()
+    Head {
+        built: true,
+        method: first.method,
+        uri: first.uri,
+        rest: at + 2,
+        seen,
+    }
 }
 
 // What the first line and the header lines of a request say.
+#[tactic(auto, unfolding(crate::specs::Head::head_of, crate::specs::Head::with_first_line))]
 pub fn read_head(s: &[u8]) -> Head
     ensures { result ≡ head_of s.now }
 {
     let classes = text::class::classes();
-    let FirstLine::Read { method, uri, next } = first_line::first_line(s, &classes) else {
-        return not_built();
-    };
-    header_lines(s, method, uri, next, &classes)
+    match first_line::first_line(s, &classes) {
+        Some(first) => header_lines(s, first, &classes),
+        None => not_built(),
+    }
+}
+
+// A request, with what its head says.
+pub fn read(text: &[u8]) -> Request<'_>
+    ensures { (result.text.now ≡ text.now) × (result.head ≡ head_of text.now) }
+{
+    Request {
+        text,
+        head: read_head(text),
+    }
 }

@@ -2,12 +2,15 @@
 #![tactic(auto)]
 
 pub mod echoed;
+pub mod fault;
 pub mod message;
 pub mod own_fields;
 pub mod status_line;
 
+use fault::Fault;
+
 // The field that a refusal's message carries: none, or one of the table's with its value.
-#[derive(Clone, Copy)]
+#[derive(Clone, Copy, PartialEq, Eq)]
 pub enum Field {
     Nothing,
     Allow,
@@ -17,10 +20,10 @@ pub enum Field {
     RetryAfter(u64),
 }
 
-// What comes back: a result from 1 up without a message, a refusal with its status and field, or 200 with tag and time granted.
-#[derive(Clone, Copy)]
+// What comes back: a fault without a message, a refusal with its status and field, or 200 with tag and time granted.
+#[derive(Clone, Copy, PartialEq, Eq)]
 pub enum Outcome {
-    Silent(u8),
+    Silent(Fault),
     Refused(u16, Field),
     Granted(u32, u32),
 }

@@ -6,25 +6,25 @@ ghost use Rattle.request.specs.Head.{head_of, value_named, is_readable};
 ghost use Rattle.response.specs.Message.{message};
 
 use crate::{Outcome, echoed, own_fields, status_line};
-use request::{Head, ToValue};
+use request::{Request, ToValue};
 
 // Writes the message at the begin of the answer buffer, and gives its length.
+#[tactic(auto, using(crate::proofs::MessageLaws::in_a_row, crate::proofs::MessageLaws::put_front, crate::proofs::FitsLaws::status_fits, crate::proofs::FitsLaws::echoed_fits, crate::proofs::FitsLaws::fields_fit), unfolding(crate::specs::Message::message, crate::specs::Outcomes::our_field))]
 pub fn write_message(
     answer: &mut [u8],
-    s: &[u8],
-    h: Head,
+    q: Request<'_>,
     to: ToValue,
     number: u32,
     o: Outcome,
 ) -> usize
-    requires { (4608 ≤ length answer.old) × (length s.now ≤ 4096) × (h ≡ head_of s.now)
-        × (to ≡ to_value (value_named To s.now h)) × (is_readable s.now h ≡ true) }
-    ensures { (result ≡ length (message s.now number o))
+    requires { (4608 ≤ length answer.old) × (length q.text.now ≤ 4096) × (q.head ≡ head_of q.text.now)
+        × (to ≡ to_value (value_named To q.text.now q.head)) × (is_readable q.text.now q.head ≡ true) }
+    ensures { (result ≡ length (message q.entry.text.now number o))
         × (answer.new
-        ≡ message s.now number o ++ drop (length (message s.now number o)) answer.old) }
+        ≡ message q.entry.text.now number o ++ drop (length (message q.entry.text.now number o)) answer.old) }
 {
     let p = status_line::put_status_line(answer, 0, status_line::status_of(o));
-    let q = echoed::put_echoed(answer, p, s, h, to, number);
-    let e = own_fields::put_field_lines(answer, q, o);
-    text::put::put(answer, e, b"Content-Length: 0\r\n\r\n")
+    let e = echoed::put_echoed(answer, p, q, to, number);
+    let f = own_fields::put_field_lines(answer, e, o);
+    text::put::put(answer, f, b"Content-Length: 0\r\n\r\n")
 }

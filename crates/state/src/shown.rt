@@ -1,15 +1,18 @@
 // The bytes that are shown: a part of the store, the default, or its empty front.
 ghost use Rattle.std.specs.Prelude.{◌≡◌, ◌+◌};
 ghost use Rattle.laws.specs.Lists.{part};
+ghost use Rattle.response.specs.Faults.{told};
 ghost use Rattle.table.specs.Read.{shown_bytes};
 ghost use Rattle.state.specs.Looked.{ReadAt};
 
 use crate::reading;
 use record::Record;
+use response::fault::Fault;
 use table::Shown;
 use table::looks::Sought;
 
 // n bytes of the store from a position on, as far as it goes.
+#[tactic(auto, using(laws::proofs::Parts::part_front))]
 fn stored(store: &[u8], from: usize, n: usize) -> &[u8]
     ensures { result.now ≡ part store.now from (from + n) }
 {
@@ -18,6 +21,7 @@ fn stored(store: &[u8], from: usize, n: usize) -> &[u8]
 }
 
 // What is shown, as the slice that it is a part of has it. Any position and any length may be asked for.
+#[tactic(auto, unfolding(table::specs::Read::shown_bytes))]
 pub fn shown_part<'a>(store: &'a [u8], default: &'a [u8], shown: Shown) -> &'a [u8]
     ensures { result.now ≡ shown_bytes store.now default.now shown }
 {
@@ -28,7 +32,15 @@ pub fn shown_part<'a>(store: &'a [u8], default: &'a [u8], shown: Shown) -> &'a [
     }
 }
 
-// Reads state: the result is told, and the bytes shown are a part of the store or of the default.
+// What reading hands back: whether it is refused, and the bytes that are shown. A refusal shows bytes too: the empty front of the default.
+#[derive(Clone, Copy)]
+pub struct Readout<'a> {
+    pub result: Result<(), Fault>,
+    pub bytes: &'a [u8],
+}
+
+// Reads state: the bytes shown are a part of the store or of the default.
+#[tactic(auto, unfolding(crate::specs::Looked::ReadAt, table::specs::Read::readout_of, table::specs::Read::shown_bytes))]
 pub fn read_at<'a>(
     k: Sought,
     own: Record,
@@ -37,13 +49,18 @@ pub fn read_at<'a>(
     name: &[u8],
     clock: u64,
     default: &'a [u8],
-    res: &mut u8,
-) -> &'a [u8]
+) -> Readout<'a>
     ensures { ReadAt k own n store.now name.now clock default.now
-        res.new result.now }
+        (told result.result) result.bytes.now }
 {
-    let s = reading::state_at(k, own, n, store.len(), name, clock);
-    *res = s.result;
-    let shown = s.shown;
-    shown_part(store, default, shown)
+    match reading::shown_at(k, own, n, store.len(), name, clock) {
+        Ok(shown) => Readout {
+            result: Ok(()),
+            bytes: shown_part(store, default, shown),
+        },
+        Err(fault) => Readout {
+            result: Err(fault),
+            bytes: &default[..0],
+        },
+    }
 }

@@ -1,7 +1,8 @@
 -- How a record's part of the store is cleared room by room.
 use mathlib.Core.Path.{◌≡◌, refl, sym, ◌∙◌, ap}
 use mathlib.Core.Bool.{Bool, true, false}
-use mathlib.Core.List.{List, [], ◌∷◌, ◌++◌, append-nil}
+use mathlib.Core.List.{List, [], ◌∷◌, ◌++◌, append-nil, append_assoc}
+use borrow.Rule.Slice.PartMut.{put_mid}
 use Prim.Native.Nat.{ℕ, zero, suc, ◌+◌, ◌*◌, ◌-◌, ◌%◌, ◌/◌, ◌≤◌, ◌<◌}
 use native.Mathlib.Omega.{arith}
 use native.Mathlib.Nat.{not-suc-le-zero, le_of_suc-le-suc}
@@ -9,7 +10,7 @@ use native.Mathlib.Decide.{dec_lt}
 use native.Mathlib.Numerals.{add-one}
 use lib.Dec.{eqb}
 use lib.ListN.{length, get_or, take, drop, replicate, length-take, length-drop, length-replicate, drop_of_length-le}
-use lib.Seq.{length-take-le, take-append-le, take-append-add, take-take, drop-cons}
+use lib.Seq.{length-take-le, take-append-le, take-append-add, take-take, drop-cons, drop-drop}
 use borrow.Author.Tests.{lt-ltb, le-ltb}
 use Rattle.laws.specs.Choose.{pick}
 use Rattle.laws.specs.Lists.{part, put_at}
@@ -19,6 +20,12 @@ use Rattle.success.specs.Store.{room, cleared}
 use Rattle.record.specs.declared.Slot.{Slot}
 use Rattle.laws.proofs.Puts.{put_none, put_then, put_into, part_drop}
 use Rattle.success.proofs.StoreLaws.{room_length, cleared_length, places_in_length}
+
+-- zeros written over a part of the store are put in there
+pub zeros_over : (s zs : List ℕ) (at n k : ℕ) → zs ≡ replicate n 0 → k ≡ n → put_mid at k s zs ≡ put_at s at (replicate n 0)
+unfolding put_at
+zeros_over s zs at n k e f =
+    rw (e, f, length-replicate {A = ℕ} n 0, drop-drop n at s) (sym (append_assoc (take at s) (replicate n 0) (drop (at + n) s)))
 
 -- the first of some zeros are zeros
 first_zeros : (m k : ℕ) → m ≤ k → take {A = ℕ} m (replicate k 0) ≡ replicate m 0

@@ -2,13 +2,13 @@
 use mathlib.Core.Path.{◌≡◌, refl, sym, ◌∙◌, ap, ap₂}
 use mathlib.Core.Bool.{Bool, true, false, ◌&&◌}
 use mathlib.Core.List.{List, [], ◌∷◌, ◌++◌, map}
-use Prim.Native.Nat.{ℕ, zero, suc, ◌+◌, ◌*◌, ◌-◌, ◌/◌, ◌%◌, ◌^◌, ◌<◌, ◌≤◌}
+use Prim.Native.Nat.{ℕ, zero, suc, ◌+◌, ◌*◌, ◌-◌, ◌/◌, ◌^◌, ◌<◌, ◌≤◌}
 use native.Mathlib.Omega.{arith}
 use native.Mathlib.Numerals.{add-one}
 use native.Mathlib.Nat.{le_refl, not-suc-le-zero, le_of_suc-le-suc, pow-succ', div-one, div-div-eq-div-mul}
 use native.Mathlib.Decide.{dec_lt}
-use lib.Dec.{eqb, ltb, leb}
-use lib.ListN.{length, get_or, take, drop, set, length-map, drop_of_length-le}
+use lib.Dec.{ltb, leb}
+use lib.ListN.{length, get_or, take, drop, set, drop_of_length-le}
 use lib.Seq.{take-suc-set, drop-set-lt, append_snoc, drop-cons}
 use borrow.Author.Tests.{lt-ltb, le-ltb, le-leb, lt-leb}
 use Rattle.laws.specs.Choose.{pick}
@@ -19,14 +19,7 @@ use Rattle.record.specs.declared.Slot.{Slot}
 use Rattle.record.specs.declared.Record.{Record}
 use Rattle.success.proofs.StoreLaws.{slots_of_length, freed_length}
 use Rattle.record.proofs.MapLaws.{map_below}
-
--- what the type of a record says of its slots: there are eight
-pub eight_slots : {B : Type 0} (r : Record) (f : Slot → B) → length (map f r.slots) ≡ 8 → length r.slots ≡ 8
-eight_slots r f e = sym (length-map r.slots f) ∙ e
-
--- a slot, with its bit the lowest of a map
-abbrev pub placed : ℕ → Slot → Place
-placed m s = record { taken = eqb (m % 2) 1; slot = s }
+use Rattle.record.proofs.SlotLaws.{placed}
 
 -- the places of some slots, of which those are freed whose end has come
 abbrev pub freed_of : ℕ → ℕ → List Slot → List Place

@@ -1,15 +1,18 @@
 -- The record and its part of the store after a success, from the map and the slots that the freeing left.
 use mathlib.Core.Path.{◌≡◌, refl, sym, ◌∙◌, ap}
-use mathlib.Core.Bool.{Bool, true, false, ◌&&◌}
+use mathlib.Core.Bool.{Bool, true, false, ◌&&◌, and-false}
+use mathlib.Core.Logic.{◌⊎◌, inl, inr}
 use mathlib.Core.List.{List, [], ◌∷◌}
-use Prim.Native.Nat.{ℕ, zero, suc, ◌+◌, ◌*◌, ◌/◌, ◌%◌, ◌<◌, ◌≤◌}
+use Prim.Native.Nat.{ℕ, zero, suc, ◌+◌, ◌*◌, ◌<◌, ◌≤◌}
 use native.Mathlib.Omega.{arith}
-use native.Mathlib.Nat.{le_refl, not-suc-le-zero, le_of_suc-le-suc}
-use lib.Dec.{eqb, ltb}
+use native.Mathlib.Nat.{not-suc-le-zero, le_of_suc-le-suc}
+use lib.Dec.{ltb}
 use lib.ListN.{length, get_or, set}
 use lib.Seq.{set_out}
 use borrow.Author.Tests.{eq-eqb, ne_eqb, lt-ltb, le-ltb, ltb-true}
-use Rattle.laws.specs.Choose.{pick}
+use Rattle.std.specs.Prelude.{Option, Some, None, is_some}
+use Rattle.laws.specs.Choose.{pick, below}
+use Rattle.laws.proofs.Some.{below_some}
 use Rattle.laws.specs.Lists.{part, put_at}
 use Rattle.laws.proofs.Tests.{and_left, and_right}
 use Rattle.laws.proofs.Parts.{part_length, part_at_lem, put_length, put_part}
@@ -21,19 +24,9 @@ use Rattle.record.specs.declared.Slot.{Slot}
 use Rattle.record.specs.declared.Record.{Record}
 use Rattle.success.specs.declared.Success.{Success}
 use Rattle.record.proofs.MapLaws.{map_lowest, map_with, map_without}
-use Rattle.success.proofs.StoreLaws.{slots_of_length, part_after_length}
+use Rattle.success.proofs.StoreLaws.{slots_of_length, freed_places_length, part_after_length}
 use Rattle.laws.proofs.Puts.{put_same, put_again}
 use Rattle.success.proofs.AfterLaws.{places_after_lem}
-
--- the lowest free of k places is at most k
-pub lowest_most : (k m : ℕ) → lowest_free_in k m ≤ k
-unfolding lowest_free_in
-lowest_most zero m = le_refl 0
-lowest_most (suc k) m = go (eqb (m % 2) 1) (lowest_most k (m / 2))
-  where
-    go : (b : Bool) → lowest_free_in k (m / 2) ≤ k → pick b (suc (lowest_free_in k (m / 2))) 0 ≤ suc k
-    go true h = omega arith
-    go false h = omega arith
 
 -- the slots of places of which one is replaced
 slots_set : (ps : List Place) (k : ℕ) (p : Place) → slots_of (set ps k p) ≡ set (slots_of ps) k p.slot
@@ -60,10 +53,24 @@ unfolding record_after
 made_after x r ps e = rw e
 
 -- the slot that is found for writing
-pub slot_found : (x : Success) (r : Record) (live k : ℕ) → length (freed_places x r) ≡ 8 → live ≡ map_of (freed_at x.clock r)
-    → k ≡ pick (is_match x) x.slot (lowest_free_in 8 live) → k ≡ written_slot x r
+pub slot_found : (x : Success) (r : Record) (live : ℕ) {k : Option ℕ} → length r.slots ≡ 8 → live ≡ map_of (freed_at x.clock r)
+    → k ≡ below 8 (pick (is_match x) x.slot (lowest_free_in 8 live)) → k ≡ below 8 (written_slot x r)
 unfolding written_slot freed_places
-slot_found x r live k eight m e = rw (map_lowest (freed_places x r) eight, ← m) e
+slot_found x r live eight m e = rw (map_lowest (freed_places x r) (freed_places_length x r ∙ eight), ← m) e
+
+-- and where that is one of eight, it is
+pub slot_there : (x : Success) (r : Record) (live : ℕ) {k : Option ℕ} → length r.slots ≡ 8 → live ≡ map_of (freed_at x.clock r)
+    → k ≡ below 8 (pick (is_match x) x.slot (lowest_free_in 8 live)) → written_slot x r < 8 → k ≡ Some (written_slot x r)
+slot_there x r live eight m e h = slot_found x r live eight m e ∙ below_some 8 (written_slot x r) h
+
+-- a slot is told where it is below 8
+pub told_slot : (k : ℕ) → is_some (below 8 k) ≡ ltb k 8
+unfolding below
+told_slot k = go (ltb k 8)
+  where
+    go : (b : Bool) → is_some (pick b (Some k) None) ≡ b
+    go true = refl
+    go false = refl
 
 module _ (x : Success) (r : Record) (live : ℕ) (kept : List Slot) (eight : length kept ≡ 8)
     (is_live : live ≡ map_of (freed_at x.clock r)) (is-kept : kept ≡ slots_of (freed_at x.clock r)) (n : Record) where
@@ -91,29 +98,32 @@ module _ (x : Success) (r : Record) (live : ℕ) (kept : List Slot) (eight : len
       (made_after x r (set (freed_places x r) x.slot free_place) (rw (eq-eqb x.granted 0 g, lt-ltb x.slot 8 h)))
 
   -- no slot is free
-  pub begun_none : (k : ℕ) → n ≡ made_of x r live kept → 0 < x.granted → k ≡ pick (is_match x) x.slot (lowest_free_in 8 live) → 8 ≤ k
-      → n ≡ record_after x r
+  pub begun_none : n ≡ made_of x r live kept → 0 < x.granted → 8 ≤ written_slot x r → n ≡ record_after x r
   unfolding places_after written_places
-  begun_none k o g e h =
-      let out : length (freed_places x r) ≤ written_slot x r = omega (arith, slot_found x r live k eight_places is_live e, eight_places) in
+  begun_none o g h =
+      let out : length (freed_places x r) ≤ written_slot x r = omega (arith, eight_places) in
       unchanged o (rw (ne_eqb x.granted 0 (omega arith)) (set_out (freed_places x r) (written_slot x r) _ out))
 
   -- the slot is written
   pub begun_one : (k m : ℕ) (d s : Slot) → n ≡ made_of x r m (set kept k s) → 0 < x.granted
-      → k ≡ pick (is_match x) x.slot (lowest_free_in 8 live) → k < 8 → m ≡ with_place live k → s ≡ written x r (get_or kept k d) → n ≡ record_after x r
+      → k ≡ written_slot x r → k < 8 → m ≡ with_place live k → s ≡ written x r (get_or kept k d) → n ≡ record_after x r
   unfolding places_after written_places freed_places
   begun_one k m d s o g e h f t =
       let new : Place = record { taken = true; slot = s } in
       let old : get_or kept k d ≡ (get_or (freed_places x r) k free_place).slot =
       ap (λ (ss : List Slot). get_or ss k d) is-kept ∙ slots_at (freed_places x r) k d (omega (arith, eight_places)) in
       o ∙ rw (f, is_live, is-kept, ← map_with (freed_places x r) eight_places k new refl h, ← slots_set (freed_places x r) k new)
-      (made_after x r (set (freed_places x r) k new) (rw (ne_eqb x.granted 0 (omega arith), ← slot_found x r live k eight_places is_live e, t, old)))
+      (made_after x r (set (freed_places x r) k new) (rw (ne_eqb x.granted 0 (omega arith), ← e, t, old)))
 
 -- no body that is to be live was given: the store stays as it is
-pub nothing_put : (x : Success) (r : Record) (body s : List ℕ) (i : ℕ) → (has_body x && ltb 0 x.granted) ≡ false → 4096 * i + 4096 ≤ length s
+pub nothing_put : (x : Success) (r : Record) (body s : List ℕ) (i : ℕ) → (x.length ≡ 0) ⊎ ((x.length ≡ 0 → ⊥) × (x.granted ≡ 0)) → 4096 * i + 4096 ≤ length s
     → s ≡ with_part i (with_body x r body (part_of i s)) s
-unfolding with_part with_body part_of part_at
-nothing_put x r body s i e h = rw e (sym (put_same s (4096 * i) (4096 * i + 4096) (omega arith) h))
+unfolding with_part with_body has_body part_of part_at
+nothing_put x r body s i e h = rw (none e) (sym (put_same s (4096 * i) (4096 * i + 4096) (omega arith) h))
+  where
+    none : (x.length ≡ 0) ⊎ ((x.length ≡ 0 → ⊥) × (x.granted ≡ 0)) → (ltb 0 x.length && ltb 0 x.granted) ≡ false
+    none (inl e) = rw e
+    none (inr e) = rw e.1 (and-false (ltb 0 x.length))
 
 -- a body that is to be live was put into its room
 pub body_put : (x : Success) (r : Record) (body s t : List ℕ) (i k : ℕ) → 0 < x.length → 0 < x.granted → k ≡ written_slot x r

@@ -10,40 +10,28 @@ use record::{Record, Slot, map, slots};
 fn live_bit(m: u8, s: Slot, clock: u64) -> u8
     ensures { result ≡ pick (is_live clock (record { taken = eqb (m % 2) 1; slot = s })) 1 0 }
 {
-    if m % 2 != 1 {
-        return 0;
-    }
-    if clock < s.end {
-        return 1;
-    }
-    0
+    u8::from(slots::is_live(m % 2 == 1, s, clock))
 }
 
 // A slot whose bit is the lowest of m: all zero where it is occupied and its end has come.
+#[tactic(auto, unfolding(crate::specs::After::freed))]
 fn freed_slot(m: u8, s: Slot, clock: u64) -> Slot
     ensures { result ≡ (freed clock (record { taken = eqb (m % 2) 1; slot = s })).slot }
 {
-    if m % 2 != 1 {
-        return s;
+    if m % 2 == 1 && s.end <= clock {
+        slots::zero_slot()
+    } else {
+        s
     }
-    if s.end <= clock {
-        return slots::zero_slot();
-    }
-    s
 }
 
 // The map of the slots that are still occupied.
 pub fn live_map(r: Record, clock: u64) -> u8
     ensures { result ≡ map_of (freed_at clock r) }
 {
-    let slots = r.slots;
-    let map = r.map;
-    let mut out: u8 = 0;
-    let mut i: usize = 8;
-    while 0 < i {
-        i -= 1;
-        let s = slots[i];
-        out = live_bit(map >> i, s, clock) + 2 * out;
+    let mut out = 0;
+    for i in (0..8).rev() {
+        out = live_bit(r.map >> i, r.slots[i], clock) + 2 * out;
     }
     out
 }
@@ -54,12 +42,9 @@ pub fn freed_slots(r: Record, clock: u64) -> [Slot; 8]
 {
     let mut out = r.slots;
     let mut m = r.map;
-    let mut i: usize = 0;
-    while i < 8 {
-        let s = out[i];
-        out[i] = freed_slot(m, s, clock);
-        m = m / 2;
-        i += 1;
+    for s in &mut out {
+        *s = freed_slot(m, *s, clock);
+        m /= 2;
     }
     out
 }

@@ -6,7 +6,8 @@ pub mod freed;
 pub mod store;
 
 // What a success does: its clock and package, the slot matched (8 where no tag was presented), the time granted,
-// and the length of the body given (0 where there is none).
+// and the length of the body given (0 where there is none). The slot is a number and no option, since the definitions and theorems of
+// success/After, publish and runs speak of slot numbers with 8.
 #[derive(Clone, Copy)]
 pub struct Success {
     pub clock: u64,

@@ -12,11 +12,7 @@ fn zero_from(store: &mut [u8], at: usize, n: usize)
     requires { at + n ≤ length store.old }
     ensures { store.new ≡ put_at store.old at (replicate n 0) }
 {
-    let mut i: usize = 0;
-    while i < n {
-        store[at + i] = 0;
-        i += 1;
-    }
+    store[at..at + n].fill(0);
 }
 
 // How many bytes of its room a slot keeps, where its bit is the lowest of m: its body, and none where it is not occupied.
@@ -24,16 +20,15 @@ fn zero_from(store: &mut [u8], at: usize, n: usize)
 fn kept(m: u8, s: Slot) -> usize
     ensures { (result ≡ pick (eqb (m % 2) 1) (smaller s.length 512) 0) × (result ≤ 512) }
 {
-    if m % 2 != 1 {
-        return 0;
+    if m % 2 == 1 {
+        usize::from(s.length.min(512))
+    } else {
+        0
     }
-    if s.length < 512 {
-        return s.length as usize;
-    }
-    512
 }
 
 // Zeroes the part of record i.
+#[tactic(auto, unfolding(crate::specs::Store::with_part, crate::specs::Store::part_at))]
 pub fn zero_part(store: &mut [u8], i: usize)
     requires { (4096 * i + 4096 ≤ length store.old) × (i < 16) }
     ensures { store.new ≡ with_part i (replicate 4096 0) store.old }
@@ -55,12 +50,9 @@ pub fn clear_part(store: &mut [u8], i: usize, map: u8, slots: [Slot; 8])
     ensures { store.new ≡ with_part i (cleared (places_in map slots) (part_of i store.old)) store.old }
 {
     let mut m = map;
-    let mut k: usize = 0;
-    while k < 8 {
-        let s = slots[k];
-        let n = kept(m, s);
+    for (k, s) in slots.iter().enumerate() {
+        let n = kept(m, *s);
         zero_from(store, 4096 * i + 512 * k + n, 512 - n);
-        m = m / 2;
-        k += 1;
+        m /= 2;
     }
 }

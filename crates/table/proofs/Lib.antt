@@ -4,7 +4,6 @@ pub mod Sound
 pub mod GrantedLaws
 pub mod PlaceLaws
 pub mod SeekLaws
-pub mod OpenLaws
 pub mod AddLaws
 pub mod Whole
 pub mod LookedLaws

@@ -1,42 +1,48 @@
--- The laws of looking for a place among the first n of a list: one step of the walk, and its end.
-use mathlib.Core.Path.{◌≡◌, ◌∙◌, ap}
-use mathlib.Core.Bool.{Bool, true, false, not}
-use mathlib.Core.List.{List, ◌∷◌}
-use Prim.Native.Nat.{ℕ, suc, ◌+◌, ◌<◌, ◌≤◌}
-use native.Mathlib.Numerals.{add-one}
+-- The laws of the first place at which a test holds, where it is told as std tells it.
+use mathlib.Core.Path.{◌≡◌, refl, sym, ◌∙◌}
+use mathlib.Core.Bool.{Bool, true, false, cond}
+use mathlib.Core.List.{List}
+use Prim.Native.Nat.{ℕ, suc, ◌+◌}
 use native.Mathlib.Omega.{arith}
-use lib.ListN.{length, get_or, take, drop, length-take, drop_of_length-le}
-use lib.Seq.{drop-cons, get_or-take, length-take-le}
-use Rattle.lent.specs.declared.look.Look.{Look}
+use lib.Dec.{ltb}
+use lib.ListN.{length}
+use borrow.Author.Tests.{ltb-false}
+use Rattle.std.proofs.Common.{Some, None, unwrap_or, is_some, position}
+use Rattle.std.proofs.lemmas.List.Recursion.{is_position_or_len}
 use Rattle.laws.specs.Choose.{pick}
 use Rattle.laws.specs.Lists.{place_of}
+use Rattle.laws.proofs.Lists.{place_within}
 
--- the test of a look: its record is not in use
-abbrev pub unused : Look → Bool
-unused l = not l.used
+module _ {A : Type 0} (f : A → Bool) where
+  place_turn : (b : Bool) (n : ℕ) → pick b 0 (suc n) ≡ cond b 0 (1 + n)
+  place_turn true n = refl
+  place_turn false n = omega arith
 
-module _ {A : Type 0} where
-  -- where the first element from place i on stands, among the first n, at which the test holds; n where there is none
-  abbrev pub place_from : (A → Bool) → List A → ℕ → ℕ → ℕ
-  place_from f xs n i = i + place_of f (drop i (take n xs))
-
-  -- one step: where the test holds at place i the place is found, and otherwise it is looked for from the next one on
-  pub place_step : (f : A → Bool) (xs : List A) (d : A) (n i : ℕ) → i < n → n ≤ length xs → {b : Bool} → f (get_or xs i d) ≡ b
-      → place_from f xs n i ≡ pick b i (place_from f xs n (i + 1))
+  -- the first place at which a test holds is told where there is one
+  position_is : (xs : List A) → position f xs ≡ pick (ltb (place_of f xs) (length xs)) (Some (place_of f xs)) None
   unfolding place_of
-  place_step f xs d n i h k {b} e =
-      ap (λ (l : List A). i + place_of f l) first ∙ rw e (go b)
+  position_is xs = rw (is_position_or_len (place_of f) f refl (λ x xs. place_turn (f x) (place_of f xs)) xs) refl
+
+  -- and otherwise it is past the end
+  pub place_or_end : (xs : List A) {n : ℕ} → length xs ≡ n → unwrap_or (position f xs) n ≡ place_of f xs
+  place_or_end xs h = rw (position_is xs, ← h) (go (ltb (place_of f xs) (length xs)) refl)
     where
-      first : drop i (take n xs) ≡ get_or xs i d ∷ drop (i + 1) (take n xs)
-      first =
-          let l : i < length (take n xs) = omega (arith, length-take-le n xs k) in
-          rw (add-one i, drop-cons (take n xs) i d l, get_or-take n xs i d h)
+      go : (b : Bool) → ltb (place_of f xs) (length xs) ≡ b → unwrap_or (pick b (Some (place_of f xs)) None) (length xs) ≡ place_of f xs
+      go true e = refl
+      go false e = omega (arith, ltb-false _ _ e, place_within f xs)
 
-      go : (b : Bool) → i + pick b 0 (suc (place_of f (drop (i + 1) (take n xs)))) ≡ pick b i (place_from f xs n (i + 1))
-      go true = omega arith
-      go false = omega arith
+  -- the one that is told is that place
+  pub told_place : (xs : List A) (i : ℕ) → position f xs ≡ Some i → i ≡ place_of f xs
+  told_place xs i e = go (ltb (place_of f xs) (length xs)) (sym (position_is xs) ∙ e)
+    where
+      go : (b : Bool) → pick b (Some (place_of f xs)) None ≡ Some i → i ≡ place_of f xs
+      go true t = cc
+      go false t = cc
 
-  -- past the first n there is nothing to look for
-  pub place_past : (f : A → Bool) (xs : List A) (n i : ℕ) → i ≡ n → place_from f xs n i ≡ n
-  unfolding place_of
-  place_past f xs n i h = rw (drop_of_length-le (take n xs) {i = i} (omega (arith, length-take n xs))) (omega arith)
+  -- whether there is one
+  pub is_placed : (xs : List A) → is_some (position f xs) ≡ ltb (place_of f xs) (length xs)
+  is_placed xs = rw (position_is xs) (go (ltb (place_of f xs) (length xs)))
+    where
+      go : (b : Bool) → is_some (pick b (Some (place_of f xs)) None) ≡ b
+      go true = refl
+      go false = refl

@@ -2,7 +2,7 @@
 -- for, and the store. What is settled there is what `opened`, `added` and `done` settle of the lent table, once the record kept is put
 -- at its index (proofs/LookedLaws).
 -- Rules 5.1 to 5.3, 7.1 to 7.5, 7.20 of docs/RULES.md.
-use Rattle.std.specs.Prelude.{ℕ, zero, suc, Bool, not, List, [], ◌∷◌, ◌++◌, eqb, ltb, length, take, drop, set, replicate}
+use Rattle.std.specs.Prelude.{ℕ, zero, suc, Bool, not, List, [], ◌∷◌, ◌++◌, eqb, ltb, length, take, drop, set, replicate, Option, Some, None, Result, Ok, Err}
 use Rattle.laws.specs.Choose.{pick}
 use Rattle.laws.specs.First.{Row, row, first_of}
 use Rattle.laws.specs.Lists.{part, place_of}
@@ -19,11 +19,15 @@ use Rattle.publish.specs.Refusals.{Case, is_bad_size, size_rows, outcome_of}
 use Rattle.publish.specs.Step.{answer_of, success_of, part_afterwards}
 use Rattle.response.specs.declared.Outcome.{Outcome}
 use Rattle.response.specs.declared.Outcome.TheVariants.{Silent}
+use Rattle.response.specs.Faults.{number_of}
+use Rattle.response.specs.declared.fault.Fault.{Fault}
+use Rattle.response.specs.declared.fault.Fault.TheVariants.{Unsound}
 use Rattle.table.specs.Add.{Entry, fresh_record}
 use Rattle.table.specs.declared.looks.Sought.{Sought}
-use Rattle.table.specs.declared.adding.Added.{Added}
 use Rattle.table.specs.declared.handling.Begun.{Begun}
 use Rattle.table.specs.declared.handling.Settled.{Settled}
+use Rattle.table.specs.declared.Handled.{Handled}
+use Rattle.table.specs.declared.Kept.{Kept}
 
 -- opening: its result
 unfoldable pub open_result : ℕ → List ℕ → ℕ
@@ -60,8 +64,14 @@ add_rows ls n store address =
     row (not (ltb (place_of (λ l. not l.used) (take n ls)) n)) 9 ∷
     []
 
+-- what adding comes to: the result, the record that is kept, and its place
+pub record AddOut : Type 0 where
+  pub result : ℕ
+  pub index : ℕ
+  pub kept : Record
+
 -- the result, the record that is kept, and where: past the end where adding is refused
-unfoldable pub add_out : List Look → ℕ → List ℕ → List ℕ → ℕ → ℕ → Added
+unfoldable pub add_out : List Look → ℕ → List ℕ → List ℕ → ℕ → ℕ → AddOut
 add_out ls n store address start spent =
     let result = first_of (add_rows ls n (length store) address) 0 in
     let fresh = fresh_record (entry_of address start spent) in
@@ -70,6 +80,11 @@ add_out ls n store address start spent =
       index = pick (eqb result 0) (place_of (λ l. not l.used) (take n ls)) n;
       kept = pick (eqb result 0) fresh empty_record;
     }
+
+-- the same of what the code gives: where it refuses, nothing is kept, which is the empty record past the end
+abbrev pub out_of : ℕ → Result Kept Fault → AddOut
+out_of n (Ok k) = record { result = 0; index = k.place; kept = k.record }
+out_of n (Err f) = record { result = number_of f; index = n; kept = empty_record }
 
 -- the store after it
 unfoldable pub add_store : List Look → ℕ → List ℕ → List ℕ → List ℕ
@@ -102,10 +117,16 @@ case_with b own n store buffer clock s =
 
 -- the refusals tried before what the request says: the sizes of what is lent and the clock, then the soundness of every record
 unfoldable pub early_rows : Bool → ℕ → ℕ → ℕ → ℕ → ℕ → List (Row Outcome)
-early_rows sound n store request buffer clock = size_rows buffer n store request clock ++ (row (not sound) (Silent 5) ∷ [])
+early_rows sound n store request buffer clock = size_rows buffer n store request clock ++ (row (not sound) (Silent Unsound) ∷ [])
+
+-- what handling comes to: outcome and length, the record that is kept, and its place
+pub record HandleOut : Type 0 where
+  pub handled : Handled
+  pub index : ℕ
+  pub kept : Record
 
 -- handling: outcome and length, the record that is kept, and where: past the end where the request is refused
-unfoldable pub handle_out : Begun → Record → ℕ → List ℕ → ℕ → ℕ → List ℕ → List ℕ → Settled
+unfoldable pub handle_out : Begun → Record → ℕ → List ℕ → ℕ → ℕ → List ℕ → List ℕ → HandleOut
 handle_out b own n store clock number s answer =
     let c = case_with b own n (length store) (length answer) clock s in
     let after = record_after (success_of c) own in
@@ -114,6 +135,14 @@ handle_out b own n store clock number s answer =
       index = pick (is_success (outcome_of c)) b.place n;
       kept = pick (is_success (outcome_of c)) after own;
     }
+
+-- the same of what the code gives: where nothing is kept, that is the record as it was, past the end
+abbrev pub kept_out : Handled → ℕ → Record → Option Kept → HandleOut
+kept_out handled n own (Some k) = record { handled = handled; index = k.place; kept = k.record }
+kept_out handled n own None = record { handled = handled; index = n; kept = own }
+
+abbrev pub settled_of : ℕ → Record → Settled → HandleOut
+settled_of n own s = kept_out s.handled n own s.kept
 
 -- the store after it
 unfoldable pub handle_store : Begun → Record → ℕ → List ℕ → ℕ → ℕ → List ℕ → List ℕ → List ℕ

@@ -1,97 +1,71 @@
 // Adding an address, by the looks at the lent records.
-ghost use Rattle.std.specs.Prelude.{◌≡◌, ◌≤◌, length, take, drop};
+ghost use Rattle.std.specs.Prelude.{◌≡◌, ◌≤◌, IfOk, length, not, take};
 ghost use Rattle.laws.specs.First.{first_of};
 ghost use Rattle.laws.specs.Lists.{place_of};
-ghost use Rattle.lent.specs.Look.{is_look_for};
+ghost use Rattle.response.specs.Faults.{told};
 ghost use Rattle.table.specs.Add.{fresh_record};
-ghost use Rattle.table.specs.Looked.{entry_of, add_rows, add_out, add_store};
+ghost use Rattle.table.specs.Looked.{entry_of, add_rows, add_out, add_store, out_of};
 
-use crate::looks;
+use crate::{Kept, looks};
 use lent::look::Look;
 use record::Record;
+use response::fault::Fault;
 
-// What adding comes to: the result, the record that is kept, and its place (past the end where it is refused).
-#[derive(Clone, Copy)]
-pub struct Added {
-    pub result: u8,
-    pub index: usize,
-    pub kept: Record,
-}
-
-// The refusals about the address: malformed, there already, no record for it. 0 where none applies.
-fn address_refusal(ls: [Look; 16], n: usize, place: usize, address: &[u8]) -> u8
-    requires { (n ≤ 16) × (place ≡ place_of (is_look_for address.now) (take n ls)) }
-    ensures { result ≡ first_of (drop 2 (add_rows ls n 0 address.now)) 0 }
-{
-    if !record::address::is_address(address) {
-        return 7;
-    }
-    if place < n {
-        return 8;
-    }
-    if n <= looks::lowest_unused(ls, n) {
-        return 9;
-    }
-    0
-}
-
-// The first refusal that applies; 0 where none does. The start and the count of tags spent have no part in it.
-fn add_refusal(ls: [Look; 16], n: usize, store: usize, address: &[u8]) -> u8
-    ensures { result ≡ first_of (add_rows ls n store address.now) 0 }
+// The place of a new address, the lowest unused record's, or the first refusal that applies. The start and the count of tags spent have
+// no part in it.
+#[tactic(auto, using(crate::proofs::PlaceLaws::is_placed, crate::proofs::PlaceLaws::told_place), unfolding(crate::specs::Looked::add_rows, laws::specs::First::first_of, publish::specs::Refusals::is_bad_size))]
+fn place_to_add(ls: &[Look; 16], n: usize, store: usize, address: &[u8]) -> Result<usize, Fault>
+    ensures refusal { told result ≡ first_of (add_rows ls.now n store address.now) 0 }
+    ensures place { IfOk result (λ i. i ≡ place_of (λ l. not l.used) (take n ls.now)) }
 {
     if publish::refusals::is_bad_size(n, store) {
-        return 2;
+        return Err(Fault::BadSize);
     }
-    let k = looks::seek(address, ls, n);
-    if !k.sound {
-        return 5;
+    let seen = &ls[..n];
+    if !looks::all_sound(seen) {
+        return Err(Fault::Unsound);
     }
-    address_refusal(ls, n, k.place, address)
+    if !record::address::is_address(address) {
+        return Err(Fault::Malformed);
+    }
+    if looks::place_for(address, seen).is_some() {
+        return Err(Fault::AlreadyThere);
+    }
+    looks::lowest_unused(seen).ok_or(Fault::NoRoom)
 }
 
 // A record in use for an address, with its start and its count of tags spent; zero in its other fields.
+#[tactic(auto, unfolding(crate::specs::Add::fresh_record, crate::specs::Looked::entry_of))]
 fn fresh(address: &[u8], start: u32, spent: u32) -> Record
     requires { length address.now ≤ 64 }
     ensures { result ≡ fresh_record (entry_of address.now start spent) }
 {
-    let bytes = record::address::padded_address(address);
-    let s = record::slots::zero_slot();
     Record {
         used: 1,
-        address: bytes,
+        address: record::address::padded_address(address),
         start,
         spent,
-        clock: 0,
-        map: 0,
-        slots: [s; 8],
+        ..lent::empty()
     }
 }
 
 // Adds an address: its part of the store is zeroed, and its record and place are given. A refusal touches nothing.
+#[tactic(auto, using(record::proofs::AddressLaws::address_length), unfolding(crate::specs::Looked::add_out, crate::specs::Looked::add_store, crate::specs::Looked::add_rows, laws::specs::First::first_of, publish::specs::Refusals::is_bad_size))]
 pub fn add_looked(
-    ls: [Look; 16],
+    ls: &[Look; 16],
     n: usize,
     store: &mut [u8],
     address: &[u8],
     start: u32,
     spent: u32,
-) -> Added
-    ensures { (result ≡ add_out ls n store.old address.now start spent)
-        × (store.new ≡ add_store ls n store.old address.now) }
+) -> Result<Kept, Fault>
+    ensures { (out_of n result ≡ add_out ls.now n store.old address.now start spent)
+        × (store.new ≡ add_store ls.now n store.old address.now) }
 {
-    let result = add_refusal(ls, n, store.len(), address);
-    if result != 0 {
-        return Added {
-            result,
-            index: n,
-            kept: lent::empty(),
-        };
-    }
-    let i = looks::lowest_unused(ls, n);
-    success::store::zero_part(store, i);
-    Added {
-        result: 0,
-        index: i,
-        kept: fresh(address, start, spent),
-    }
+    let place = place_to_add(ls, n, store.len(), address)?;
+    success::store::zero_part(store, place);
+    Ok(Kept {
+        place,
+        record: fresh(address, start, spent),
+    })
 }

@@ -7,20 +7,22 @@ ghost use Rattle.request.specs.Head.{head_of, value_named, is_readable};
 ghost use Rattle.response.specs.Outcomes.{is_silent};
 ghost use Rattle.publish.specs.Refusals.{outcome_of};
 ghost use Rattle.publish.specs.Refusal.{refusal_in};
-ghost use Rattle.publish.specs.Asked.{asked_of};
 ghost use Rattle.response.specs.Message.{message};
-ghost use Rattle.table.specs.Looked.{begun_of, case_with, early_rows, handle_out, handle_store, handle_answer};
+ghost use Rattle.table.specs.Looked.{begun_of, case_with, early_rows, settled_of, handle_out, handle_store, handle_answer};
 
-use crate::{Handled, looks};
+use crate::{Handled, Kept, looks};
 use lent::look::Look;
-use publish::{Asked, Refusal, asking, refusals};
+use publish::asking::Trial;
+use publish::{Asked, refusals};
 use record::Record;
-use request::{Head, ToValue, fields, reading};
+use request::{Head, Request, ToValue, reading};
+use response::fault::Fault;
 use response::{Outcome, message};
 use success::Success;
 
 // What is known of a request before its record is taken out: whether all records are sound, the place of its address (past the end
 // where it has none), and what its head says.
+// A number, not an Option: table/Looked.begun_of and case_with, which may not change, say it so.
 #[derive(Clone, Copy)]
 pub struct Begun {
     pub sound: bool,
@@ -28,29 +30,29 @@ pub struct Begun {
     pub head: Head,
 }
 
-// What handling comes to: outcome and length, the record that is kept, and its place (past the end where the request is refused).
+// What handling comes to: outcome and length, and, where the request succeeds, the record that is kept.
 #[derive(Clone, Copy)]
 pub struct Settled {
     pub handled: Handled,
-    pub index: usize,
-    pub kept: Record,
+    pub kept: Option<Kept>,
 }
 
 // Reads a request, no further than a request may go, and looks for its address.
-pub fn begin(ls: [Look; 16], n: usize, request: &[u8]) -> Begun
-    ensures { result ≡ begun_of ls n request.now }
+#[tactic(auto, unfolding(crate::specs::Looked::begun_of))]
+pub fn begin(ls: &[Look; 16], n: usize, request: &[u8]) -> Begun
+    ensures { result ≡ begun_of ls.now n request.now }
 {
-    let s = text::part::part_of(request, 0, 4096);
-    let head = reading::read_head(s);
-    let k = looks::seek(fields::uri_of(s, head), ls, n);
+    let q = reading::read(text::part::part_of(request, 0, 4096));
+    let k = looks::seek(q.uri(), ls, n);
     Begun {
         sound: k.sound,
         place: k.place,
-        head,
+        head: q.head,
     }
 }
 
 // Before what the request says: the sizes, the clock, and the soundness of every record.
+#[tactic(auto, using(publish::proofs::RefusedLaws::front_err, publish::proofs::RefusedLaws::front_ok), unfolding(crate::specs::Looked::early_rows, publish::specs::Refusal::refusal_in))]
 fn early_refusal(
     sound: bool,
     n: usize,
@@ -58,37 +60,25 @@ fn early_refusal(
     request: usize,
     buffer: usize,
     clock: u64,
-) -> Refusal
+) -> Result<(), Outcome>
     ensures { result ≡ refusal_in (early_rows sound n store request buffer clock) }
 {
-    let by_size = refusals::sizes_refusal(buffer, n, store, request, clock);
-    if refusals::is_refusal(by_size) {
-        return by_size;
-    }
+    refusals::sizes_refusal(buffer, n, store, request, clock)?;
     if !sound {
-        return Refusal::First(Outcome::Silent(5));
+        return Err(Outcome::Silent(Fault::Unsound));
     }
-    Refusal::NoneApplies
+    Ok(())
 }
 
-// What comes back for a request, with its record.
-fn outcome_at(
-    b: Begun,
-    own: Record,
-    a: Asked,
-    n: usize,
-    store: usize,
-    buffer: usize,
-    clock: u64,
-    request: &[u8],
-) -> Outcome
-    requires { a ≡ asked_of own clock request.now b.head }
-    ensures { result ≡ outcome_of (case_with b own n store buffer clock request.now) }
+// What comes back for a request, tried with its record.
+fn outcome_at(b: Begun, t: &Trial<'_>, n: usize, store: usize, buffer: usize) -> Outcome
+    requires { t.now.request.head ≡ b.head }
+    ensures { result ≡ outcome_of (case_with b t.now.own n store buffer t.now.clock t.now.request.text.now) }
 {
-    let head = b.head;
-    let early = early_refusal(b.sound, n, store, request.len(), buffer, clock);
-    let otherwise = refusals::request_outcome(a, b.place < n, own, clock, request, head);
-    refusals::or_else(early, otherwise)
+    if let Err(early) = early_refusal(b.sound, n, store, t.request.text.len(), buffer, t.clock) {
+        return early;
+    }
+    t.outcome(b.place < n)
 }
 
 // The success that a request is at a record, where no refusal applies.
@@ -106,33 +96,31 @@ fn success_for(a: Asked, clock: u64) -> Success
 }
 
 // Whether no message is due.
+#[tactic(auto, unfolding(response::specs::Outcomes::is_silent))]
 fn is_silent(o: Outcome) -> bool
     ensures { result ≡ is_silent o }
 {
-    match o {
-        Outcome::Silent(_) => true,
-        Outcome::Refused(_, _) => false,
-        Outcome::Granted(_, _) => false,
-    }
+    matches!(o, Outcome::Silent(_))
 }
 
 // Writes the message that is due at the begin of the answer buffer, and gives its length; nothing where none is due.
-fn put_answer(answer: &mut [u8], s: &[u8], h: Head, to: ToValue, number: u32, o: Outcome) -> usize
+fn put_answer(answer: &mut [u8], q: Request<'_>, to: ToValue, number: u32, o: Outcome) -> usize
     requires { is_silent o ≡ false
-        → (4608 ≤ length answer.old) × (length s.now ≤ 4096) × (h ≡ head_of s.now) × (to ≡ to_value (value_named To s.now h))
-        × (is_readable s.now h ≡ true) }
-    ensures { (result ≡ length (pick (is_silent o) [] (message s.now number o)))
+        → (4608 ≤ length answer.old) × (length q.text.now ≤ 4096) × (q.head ≡ head_of q.text.now) × (to ≡ to_value (value_named To q.text.now q.head))
+        × (is_readable q.text.now q.head ≡ true) }
+    ensures { (result ≡ length (pick (is_silent o) [] (message q.entry.text.now number o)))
         × (answer.new
-        ≡ pick (is_silent o) [] (message s.now number o)
-        ++ drop (length (pick (is_silent o) [] (message s.now number o))) answer.old) }
+        ≡ pick (is_silent o) [] (message q.entry.text.now number o)
+        ++ drop (length (pick (is_silent o) [] (message q.entry.text.now number o))) answer.old) }
 {
     if is_silent(o) {
         return 0;
     }
-    message::write_message(answer, s, h, to, number, o)
+    message::write_message(answer, q, to, number, o)
 }
 
 // A request whose record is at hand is answered, and what a success does is done.
+#[tactic(auto, using(crate::proofs::AskLaws::body_fits_there), unfolding(crate::specs::Looked::case_with, crate::specs::Looked::handle_out, crate::specs::Looked::handle_store, crate::specs::Looked::handle_answer, publish::specs::Step::answer_of, publish::specs::Step::success_of, publish::specs::Step::success_for, publish::specs::Step::part_afterwards, publish::specs::Asked::asked_of))]
 pub fn finish(
     b: Begun,
     own: Record,
@@ -144,29 +132,32 @@ pub fn finish(
     answer: &mut [u8],
 ) -> Settled
     requires { length request.now ≤ 4096 → b.head ≡ head_of request.now }
-    ensures { (result ≡ handle_out b own n store.old clock number request.now answer.old)
+    ensures { (settled_of n own result ≡ handle_out b own n store.old clock number request.now answer.old)
         × ((store.new ≡ handle_store b own n store.old clock number request.now answer.old)
         × (answer.new ≡ handle_answer b own n store.old clock number request.now answer.old)) }
 {
-    let head = b.head;
-    let a = asking::asked_of(own, clock, request, head);
-    let outcome = outcome_at(b, own, a, n, store.len(), answer.len(), clock, request);
-    let to = a.to;
-    let length = put_answer(answer, request, head, to, number, outcome);
+    let q = Request {
+        text: request,
+        head: b.head,
+    };
+    let t = Trial::new(own, clock, q);
+    let asked = t.asked;
+    let outcome = outcome_at(b, &t, n, store.len(), answer.len());
+    let length = put_answer(answer, q, asked.to, number, outcome);
     let handled = Handled { outcome, length };
     if !refusals::is_success(outcome) {
         return Settled {
             handled,
-            index: n,
-            kept: own,
+            kept: None,
         };
     }
-    let x = success_for(a, clock);
-    let body = fields::body_of(request, head, a.length);
-    let kept = success::after::succeed(store, b.place, x, own, body);
+    let body = q.body(asked.length);
+    let record = success::after::succeed(store, b.place, success_for(asked, clock), own, body);
     Settled {
         handled,
-        index: b.place,
-        kept,
+        kept: Some(Kept {
+            place: b.place,
+            record,
+        }),
     }
 }

@@ -8,6 +8,7 @@ pub mod handling;
 pub mod looks;
 pub mod opening;
 
+use record::Record;
 use response::Outcome;
 
 // What a handled request comes back with: its outcome, and the message's length (0 where there is none).
@@ -30,4 +31,11 @@ pub enum Shown {
 pub struct State {
     pub result: u8,
     pub shown: Shown,
+}
+
+// A record that is kept, and its place among those lent.
+#[derive(Clone, Copy)]
+pub struct Kept {
+    pub place: usize,
+    pub record: Record,
 }

@@ -12,18 +12,20 @@ const STEP: u32 = 2654435769;
 pub fn next_tag(tag: u32) -> u32
     ensures { result ≡ (tag + 2654435769) % 4294967296 }
 {
-    std::num::wrapping_add_u32(tag, STEP)
+    tag.wrapping_add(STEP)
 }
 
 // The tag of success number n.
+#[tactic(auto, unfolding(crate::specs::Tag::tag_of))]
 pub fn nth_tag(start: u32, n: u32) -> u32
     ensures { result ≡ tag_of start n }
 {
-    let far = n as u64 * 2654435769 % 4294967296;
-    ((start as u64 + far) % 4294967296) as u32
+    let far = u64::from(n) * 2654435769 % 4294967296;
+    ((u64::from(start) + far) % 4294967296) as u32
 }
 
 // The tag of the next success: the last plus the step.
+#[tactic(auto, using(crate::proofs::Tag::tag_next))]
 pub fn given_tag(start: u32, spent: u32) -> u32
     ensures { result ≡ tag_of start (spent + 1) }
 {
@@ -31,10 +33,11 @@ pub fn given_tag(start: u32, spent: u32) -> u32
 }
 
 // The success number whose tag this is.
+#[tactic(auto, unfolding(crate::specs::Given::number_of_tag))]
 pub fn number_of_tag(start: u32, tag: u32) -> u64
     ensures { result ≡ number_of_tag start tag }
 {
-    let d = tag as u64 + 4294967296 - start as u64;
+    let d = u64::from(tag) + 4294967296 - u64::from(start);
     d * 340573321 % 4294967296
 }
 
@@ -44,10 +47,7 @@ pub fn is_given(start: u32, spent: u32, tag: u32) -> bool
     ensures { result ≡ is_given start spent tag }
 {
     let n = number_of_tag(start, tag);
-    if n < 1 {
-        return false;
-    }
-    n <= spent as u64
+    1 <= n && n <= u64::from(spent)
 }
 
 // Whether a presented token is this tag, in either case.

@@ -1,15 +1,23 @@
--- The law of the table of classes: a question asked of a byte's class has the answer that a test of the byte gives.
-use mathlib.Core.Path.{◌≡◌, ◌∙◌, ap}
+-- The laws of the table of classes: what it has at a byte is the byte's class, and a question asked of the class is one asked of the byte.
+use mathlib.Core.Path.{◌≡◌, refl}
 use mathlib.Core.List.{List}
-use mathlib.Core.Bool.{Bool}
 use Prim.Native.Nat.{ℕ, ◌<◌}
+use lib.Dec.{leb}
 use lib.ListN.{get_or}
-use Rattle.laws.specs.Lists.{listed}
 use Rattle.laws.proofs.Table.{at, agree}
-use Rattle.text.specs.Class.{class_of, class_table}
+use Rattle.text.specs.Class.{class_of, class_table, is_token, is_digit, is_letter, is_blank, is_value}
 
--- a question that agrees with a test at each of the 256 bytes, asked of the class that the table has for one
-pub asked : (q f : ℕ → Bool) → listed (λ n. q (class_of n)) 0 256 ≡ listed f 0 256
-    → (t : List ℕ) → t ≡ class_table → (i b : ℕ) → i ≡ b → b < 256 → q (get_or t i 0) ≡ f b
+-- the entry of the table at a byte
+pub class_at : (t : List ℕ) (i b : ℕ) → t ≡ class_table → i ≡ b → b < 256 → get_or t i 0 ≡ class_of b
 unfolding class_table
-asked q f e t w i b v h = rw (w, v) (ap q (at class_of 0 256 b h) ∙ agree (λ n. q (class_of n)) f 256 e b h)
+class_at t i b e v h = rw (e, v) (at class_of 0 256 b h)
+
+-- at least 3 for the token bytes alone
+pub token_class : (b : ℕ) → b < 256 → leb 3 (class_of b) ≡ is_token b
+unfolding class_of is_token is_digit is_letter is_blank is_value
+token_class b h = agree (λ n. leb 3 (class_of n)) is_token 256 refl b h
+
+-- at least 1 for the value bytes alone
+pub value_class : (b : ℕ) → b < 256 → leb 1 (class_of b) ≡ is_value b
+unfolding class_of is_token is_digit is_letter is_blank is_value
+value_class b h = agree (λ n. leb 1 (class_of n)) is_value 256 refl b h

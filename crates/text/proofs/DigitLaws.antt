@@ -1,8 +1,8 @@
 -- The laws of digits: how many are written for a number, and how a writer puts them, the last behind the others.
-use mathlib.Core.Path.{◌≡◌, refl, ◌∙◌}
+use mathlib.Core.Path.{◌≡◌, refl}
 use mathlib.Core.Bool.{Bool, true, false}
 use mathlib.Core.List.{List, [], ◌∷◌, ◌++◌, append_assoc}
-use Prim.Native.Nat.{ℕ, zero, suc, ◌+◌, ◌-◌, ◌/◌, ◌%◌, ◌^◌, ◌<◌, ◌≤◌}
+use Prim.Native.Nat.{ℕ, zero, suc, ◌+◌, ◌-◌, ◌/◌, ◌%◌, ◌<◌, ◌≤◌}
 use native.Mathlib.Numerals.{sub-one}
 use native.Mathlib.Omega.{arith}
 use lib.Dec.{ltb}
@@ -10,9 +10,8 @@ use lib.ListN.{length, take, drop, set, length-append}
 use lib.Seq.{length-take-le, take-set-le, set_split, drop_at}
 use borrow.Author.Tests.{lt-ltb, le-ltb}
 use Rattle.laws.specs.Choose.{pick}
-use Rattle.laws.specs.Wrote.{Wrote}
 use Rattle.laws.specs.Lists.{put_at}
-use Rattle.laws.proofs.Wrote.{then, wrote_none}
+use Rattle.laws.proofs.Puts.{put_none, put_then}
 use Rattle.text.specs.Digits.{hex_digit, hex_digits, eight_hex, decimal_digits, decimal_of}
 
 -- one byte behind others
@@ -50,33 +49,28 @@ pub decimal_twenty : (n : ℕ) → length (decimal_of n) ≤ 20
 unfolding decimal_of
 decimal_twenty n = decimal_length 20 n
 
--- a number below a power of ten has no more digits than the power says
-pub decimal_below : (j k n : ℕ) → n < 10 ^ suc j → length (decimal_digits k n) ≤ suc j
-unfolding decimal_digits
-decimal_below j zero n h = omega arith
-decimal_below zero (suc k) n h = rw (lt-ltb n 10 h) (omega arith)
-decimal_below (suc j) (suc k) n h = decimal_more k (suc j) n (decimal_below j k (n / 10) (omega arith))
-
--- a number below a thousand is at most three bytes
-pub decimal_three : (n : ℕ) → n < 1000 → length (decimal_of n) ≤ 3
-unfolding decimal_of
-decimal_three n h = decimal_below 2 20 n h
-
 -- a digit below ten
 digit_low : (n : ℕ) → n < 10 → hex_digit n ≡ 48 + n
 unfolding hex_digit
 digit_low n h = rw (lt-ltb n 10 h)
 
-module _ {d : List ℕ} {at : ℕ} (k n : ℕ) where
-  -- no hex digit is left to write
-  pub put_hex_none : k ≡ 0 → at + k ≤ length d → Wrote d at (hex_digits k n) d at
-  unfolding hex_digits
-  put_hex_none e h = rw e (wrote_none d at (omega arith))
+-- no decimal digits
+pub decimal_none : (k n : ℕ) → k ≡ 0 → decimal_digits k n ≡ []
+unfolding decimal_digits
+decimal_none k n e = rw e
 
-  -- no decimal digit is left to write
-  pub put_digits_none : k ≡ 0 → at + k ≤ length d → Wrote d at (decimal_digits k n) d at
-  unfolding decimal_digits
-  put_digits_none e h = rw e (wrote_none d at (omega arith))
+-- one decimal digit
+pub decimal_one : (k n : ℕ) → (k ≡ 0 → ⊥) → n < 10 → decimal_digits k n ≡ hex_digit n ∷ []
+unfolding decimal_digits
+decimal_one zero n f h = absurd (f refl)
+decimal_one (suc k) n f h = rw (lt-ltb n 10 h, digit_low n h)
+
+-- the decimal digits in front, and behind them the last one
+pub decimal_step : (k n : ℕ) → (k ≡ 0 → ⊥) → 10 ≤ n
+    → decimal_digits k n ≡ decimal_digits (k - 1) (n / 10) ++ (hex_digit (n % 10) ∷ [])
+unfolding decimal_digits
+decimal_step zero n f h = absurd (f refl)
+decimal_step (suc k) n f h = rw (le-ltb n 10 h, sub-one (suc k), digit_low (n % 10) (omega arith))
 
 -- bytes put in front of one that is set are put with it
 put_front : (d : List ℕ) (at : ℕ) (bs : List ℕ) (x : ℕ) → at + length bs < length d
@@ -105,29 +99,13 @@ put_hex_step d at p n x h l e = go (p - 1 - at) (omega arith) (omega arith)
         let f : length (hex_digits j (n / 16)) ≡ j = hex_length j (n / 16) in
         rw (a, b, e) (rw f at (put_front d at (hex_digits j (n / 16)) (hex_digit (n % 16)) (omega arith)))
 
--- where none is left to put, all of them stand there
-pub put_hex_all : {d d' : List ℕ} {at : ℕ} (k n j m : ℕ) → at + k ≤ length d → length d' ≡ length d → j ≡ 0
-    → put_at d' at (hex_digits j m) ≡ put_at d at (hex_digits k n) → Wrote d at (hex_digits k n) d' (at + k)
-put_hex_all {d} {d'} {at} k n j m h l z e =
-    let f : length (hex_digits k n) ≡ k = hex_length k n in
-    record {
-      next = rw f;
-      room = rw f h;
-      holds = (put_hex_none {d = d'} {at = at} j m z (omega arith)).holds ∙ e;
-    }
+-- where no hex digit is left to put, the list stays
+pub put_hex_none : (d : List ℕ) (at k n : ℕ) → k ≡ 0 → at ≤ length d → put_at d at (hex_digits k n) ≡ d
+unfolding hex_digits
+put_hex_none d at k n e h = rw e (put_none d at h)
 
--- one decimal digit alone
-pub put_digits_last : {d : List ℕ} {at : ℕ} {d' : List ℕ} {r : ℕ} (k n x : ℕ) → (k ≡ 0 → ⊥) → n < 10
-    → x ≡ hex_digit n → Wrote d at (x ∷ []) d' r → Wrote d at (decimal_digits k n) d' r
-unfolding decimal_digits
-put_digits_last zero n x f h e v = absurd (f refl)
-put_digits_last (suc k) n x f h e v = rw (lt-ltb n 10 h) (rw (e ∙ digit_low n h) at v)
+-- what a writer of hex digits asks
+pub ruleset hex_steps = (put_hex_step, put_hex_none, hex_length)
 
-module _ {d : List ℕ} {at : ℕ} {d' : List ℕ} {p : ℕ} {d'' : List ℕ} {r : ℕ} where
-  -- the decimal digits in front, and behind them the last one
-  pub put_digits_more : (k n x : ℕ) → (k ≡ 0 → ⊥) → 10 ≤ n → Wrote d at (decimal_digits (k - 1) (n / 10)) d' p
-      → x ≡ hex_digit (n % 10) → Wrote d' p (x ∷ []) d'' r → Wrote d at (decimal_digits k n) d'' r
-  unfolding decimal_digits
-  put_digits_more zero n x f h u e v = absurd (f refl)
-  put_digits_more (suc k) n x f h u e v =
-      rw (le-ltb n 10 h) (then (rw (sub-one (suc k)) at u) (rw (e ∙ digit_low (n % 10) (omega arith)) at v))
+-- what a writer of decimal digits asks
+pub ruleset decimal_steps = (decimal_none, decimal_one, decimal_step, decimal_length, put_none, put_then, length-append)

@@ -5,4 +5,3 @@ pub mod SameLaws
 pub mod NameLaws
 pub mod NumberLaws
 pub mod DigitLaws
-pub mod HexLaws

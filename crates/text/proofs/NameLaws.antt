@@ -38,3 +38,6 @@ module _ (s t : List ℕ) (l : length s ≡ length t) (i : ℕ) where
   pub text_end_lem : length s ≤ i → same_text (drop i s) (drop i t) ≡ true
   unfolding same_text lowered same
   text_end_lem h = rw (drop_of_length-le s h, drop_of_length-le t (rw l at h))
+
+-- what the comparison goes by
+pub ruleset text_steps = (text_other, text_off, text_on, text_end_lem)

@@ -1,6 +1,6 @@
 -- The laws of decimal numbers: what a number that is read up to a place says, as its next byte is read.
-use mathlib.Core.Path.{◌≡◌, refl, sym, ◌∙◌}
-use mathlib.Core.Bool.{Bool, true, false, ◌&&◌, not}
+use mathlib.Core.Path.{◌≡◌, refl}
+use mathlib.Core.Bool.{Bool, true, false, ◌&&◌}
 use mathlib.Core.List.{List, [], ◌∷◌}
 use Prim.Native.Nat.{ℕ, ◌+◌, ◌-◌, ◌*◌, ◌<◌, ◌≤◌}
 use native.Mathlib.Numerals.{add-one}
@@ -8,21 +8,20 @@ use native.Mathlib.Omega.{arith}
 use lib.Dec.{leb}
 use lib.ListN.{length, get_or, drop, drop_of_length-le}
 use lib.Seq.{drop-cons}
-use borrow.Author.Tests.{le-leb, lt-leb, leb-true, not-true, not-false}
+use borrow.Author.Tests.{le-leb, lt-leb, leb-true}
+use Rattle.std.proofs.Common.{Option, Some, None}
 use Rattle.laws.specs.Choose.{pick}
 use Rattle.laws.specs.Lists.{every, empty}
 use Rattle.laws.proofs.Tests.{and_left}
 use Rattle.text.specs.Class.{is_digit}
-use Rattle.text.specs.declared.number.Num.{Num}
-use Rattle.text.specs.declared.number.Num.TheVariants.{Value, Unfit}
 use Rattle.text.specs.Number.{is_digits, decimal_from, decimal, number_of}
 
 -- what v, and behind it the rest of the text, say as a number of at most so much
-unfoldable pub number_from : ℕ → ℕ → List ℕ → Num
-number_from most v s = pick (every is_digit s && leb (decimal_from v s) most) (Value (decimal_from v s)) Unfit
+unfoldable pub number_from : ℕ → ℕ → List ℕ → Option ℕ
+number_from most v s = pick (every is_digit s && leb (decimal_from v s) most) (Some (decimal_from v s)) None
 
 -- an empty text says no number
-pub number_none : (most : ℕ) (s : List ℕ) → length s ≡ 0 → number_of most s ≡ Unfit
+pub number_none : (most : ℕ) (s : List ℕ) → length s ≡ 0 → number_of most s ≡ None
 unfolding number_of is_digits empty
 number_none most [] e = refl
 number_none most (x ∷ s) e = absurd (omega arith)
@@ -34,9 +33,9 @@ number_some most [] e = absurd (e refl)
 number_some most (x ∷ s) e = refl
 
 -- a digit is at least the digit 0
-pub digit_from : (a : Bool) (x b : ℕ) → a ≡ is_digit x → not a ≡ false → b ≡ x → 48 ≤ b
+pub digit_from : (b : ℕ) → is_digit b ≡ true → 48 ≤ b
 unfolding is_digit
-digit_from a x b q t r = rw r (leb-true 48 x (and_left (leb 48 x) (leb x 57) (sym q ∙ not-false a t)))
+digit_from b e = leb-true 48 b (and_left (leb 48 b) (leb b 57) e)
 
 -- further digits make no number smaller
 grows : (v : ℕ) (s : List ℕ) → v ≤ decimal_from v s
@@ -45,31 +44,34 @@ grows v [] = omega arith
 grows v (x ∷ s) = omega (arith, grows (v * 10 + (x - 48)) s)
 
 -- a number that is too large is unfit
-too_large : (most v : ℕ) (s : List ℕ) → most < v → number_from most v s ≡ Unfit
+too_large : (most v : ℕ) (s : List ℕ) → most < v → number_from most v s ≡ None
 unfolding number_from
 too_large most v s h = rw (lt-leb (decimal_from v s) most (omega (arith, grows v s))) (go (every is_digit s))
   where
-    go : (b : Bool) → pick (b && false) (Value (decimal_from v s)) Unfit ≡ Unfit
+    go : (b : Bool) → pick (b && false) (Some (decimal_from v s)) None ≡ None
     go true = refl
     go false = refl
 
 -- at the end of the text the number is there
-pub number_end : (most v : ℕ) (s : List ℕ) (i : ℕ) → length s ≤ i → v ≤ most → number_from most v (drop i s) ≡ Value v
+pub number_end : (most v : ℕ) (s : List ℕ) (i : ℕ) → length s ≤ i → v ≤ most → number_from most v (drop i s) ≡ Some v
 unfolding number_from decimal_from every
 number_end most v s i h k = rw (drop_of_length-le s h, le-leb v most k)
 
-module _ (most v : ℕ) (s : List ℕ) (i : ℕ) (h : i < length s) (a : Bool) (q : a ≡ is_digit (get_or s i 0)) where
+module _ (most v : ℕ) (s : List ℕ) (i : ℕ) (h : i < length s) where
   -- the next byte is no digit
-  pub number_off : not a ≡ true → number_from most v (drop i s) ≡ Unfit
+  pub number_off : is_digit (get_or s i 0) ≡ false → number_from most v (drop i s) ≡ None
   unfolding number_from every
-  number_off t = rw (drop-cons s i 0 h, ← q, not-true a t)
+  number_off e = rw (drop-cons s i 0 h, e)
 
-  module _ (t : not a ≡ false) (b : ℕ) (r : b ≡ get_or s i 0) where
-    -- the next byte is a digit, and the number goes on with it
-    pub number_on : number_from most v (drop i s) ≡ number_from most (v * 10 + (b - 48)) (drop (i + 1) s)
-    unfolding number_from decimal_from every
-    number_on = rw (add-one i, drop-cons s i 0 h, ← q, not-false a t, r)
+  -- the next byte is a digit, and the number goes on with it
+  pub number_on : is_digit (get_or s i 0) ≡ true
+      → number_from most v (drop i s) ≡ number_from most (v * 10 + (get_or s i 0 - 48)) (drop (i + 1) s)
+  unfolding number_from decimal_from every
+  number_on e = rw (add-one i, drop-cons s i 0 h, e)
 
-    -- and it is too large with it
-    pub number_over : most < v * 10 + (b - 48) → number_from most v (drop i s) ≡ Unfit
-    number_over o = rw number_on (too_large most (v * 10 + (b - 48)) (drop (i + 1) s) o)
+  -- and it is too large with it
+  pub number_over : is_digit (get_or s i 0) ≡ true → most < v * 10 + (get_or s i 0 - 48) → number_from most v (drop i s) ≡ None
+  number_over e o = rw (number_on e) (too_large most (v * 10 + (get_or s i 0 - 48)) (drop (i + 1) s) o)
+
+-- what a reader of decimal digits asks
+pub ruleset number_steps = (number_none, number_some, digit_from, number_off, number_on, number_over, number_end)

@@ -8,12 +8,12 @@ use native.Mathlib.Numerals.{add-one}
 use native.Mathlib.Decide.{dec_lt}
 use native.Mathlib.Omega.{arith}
 use lib.Dec.{eqb, eqb-zero-suc, eqb-suc-suc}
-use lib.ListN.{length, get_or, take, drop, length-drop, drop_of_length-le, get_or-eq_default}
+use lib.ListN.{length, get_or, drop, length-take, length-drop, drop_of_length-le, get_or-eq_default}
 use lib.Seq.{drop-cons}
 use Rattle.laws.specs.Choose.{pick}
 use Rattle.laws.specs.Lists.{byte_at, every, empty}
 use Rattle.text.specs.Class.{is_token}
-use Rattle.text.specs.Runs.{run, past, front, is_one_token}
+use Rattle.text.specs.Runs.{run, past, is_one_token}
 
 -- within the list it does not matter what would stand past its end
 pub get_d_any : (s : List ℕ) (i a b : ℕ) → i < length s → get_or s i a ≡ get_or s i b
@@ -61,20 +61,35 @@ run_whole f (x ∷ xs) = go (f x) (run_whole f xs)
     go false h = eqb-zero-suc (length xs)
 
 module _ (f : ℕ → Bool) (s : List ℕ) (i : ℕ) where
+  -- a byte of the kind is one more of what is left
+  pub run_on : i < length s → f (get_or s i 0) ≡ true → run f (drop i s) ≡ 1 + run f (drop (i + 1) s)
+  unfolding run
+  run_on h e = rw (drop-cons s i 0 h, e, add-one) (omega arith)
+
+  -- another ends it
+  pub run_off : i < length s → f (get_or s i 0) ≡ false → run f (drop i s) ≡ 0
+  unfolding run
+  run_off h e = rw (drop-cons s i 0 h, e)
+
+  -- and so does the end of the text
+  pub run_end : length s ≤ i → run f (drop i s) ≡ 0
+  unfolding run
+  run_end h = rw (drop_of_length-le s h)
+
   -- a byte of the kind carries the run on
   pub past_on : i < length s → f (get_or s i 0) ≡ true → past f s i ≡ past f s (i + 1)
-  unfolding past run
-  past_on h e = rw (drop-cons s i 0 h, e, add-one) (omega arith)
+  unfolding past
+  past_on h e = omega (arith, run_on h e)
 
   -- a byte of another kind ends it
   pub past_off : i < length s → f (get_or s i 0) ≡ false → past f s i ≡ i
-  unfolding past run
-  past_off h e = rw (drop-cons s i 0 h, e) (omega arith)
+  unfolding past
+  past_off h e = omega (arith, run_off h e)
 
   -- and so does the end of the text
   pub past_end : length s ≤ i → past f s i ≡ i
-  unfolding past run
-  past_end h = rw (drop_of_length-le s h) (omega arith)
+  unfolding past
+  past_end h = omega (arith, run_end h)
 
   -- a run ends where it begins or behind that
   pub past_from : i ≤ past f s i
@@ -91,15 +106,9 @@ pub past_first : (f : ℕ → Bool) (s : List ℕ) → past f s 0 ≡ run f s
 unfolding past
 past_first f s = zero-add (run f s)
 
-module _ (f : ℕ → Bool) (s : List ℕ) (e : ℕ) (ends : e ≡ past f s 0) where
-  -- that end lies within the text
-  pub first_within : e ≤ length s
-  first_within = omega (arith, past_within f s 0 (omega arith))
-
-  -- and what stands before it is the run
-  pub front_is : take e s ≡ front f s
-  unfolding front
-  front_is = ap (λ (n : ℕ). take n s) (ends ∙ past_first f s)
+-- and within the text
+pub first_within : (f : ℕ → Bool) (s : List ℕ) (e : ℕ) → e ≡ past f s 0 → e ≤ length s
+first_within f s e ends = omega (arith, past_within f s 0 (omega arith))
 
 -- a text of no length is no token
 pub token_none : (s : List ℕ) → length s ≡ 0 → is_one_token s ≡ false
@@ -112,3 +121,9 @@ pub token_run : (s : List ℕ) (e : ℕ) → (length s ≡ 0 → ⊥) → e ≡ 
 unfolding is_one_token empty
 token_run [] e h w = absurd (h refl)
 token_run (x ∷ xs) e h w = ap (λ (n : ℕ). eqb n (length (x ∷ xs))) (w ∙ past_first is_token (x ∷ xs)) ∙ run_whole is_token (x ∷ xs)
+
+-- what a count of the bytes of a kind asks
+pub ruleset run_steps = (run_on, run_off, run_end)
+
+-- what a cut behind a run asks
+pub ruleset front_steps = (past_within, past_first, length-take)

@@ -38,3 +38,6 @@ module _ (s t : List ℕ) (l : length s ≡ length t) (i : ℕ) where
   pub same_end : length s ≤ i → same (drop i s) (drop i t) ≡ true
   unfolding same
   same_end h = rw (drop_of_length-le s h, drop_of_length-le t (rw l at h))
+
+-- what the comparison goes by
+pub ruleset same_steps = (same_other, same_on, same_off, same_end)

@@ -10,8 +10,8 @@ use Rattle.laws.specs.Choose.{pick}
 use Rattle.laws.specs.Lists.{part, every}
 use Rattle.laws.proofs.Parts.{part_length}
 use Rattle.text.specs.Class.{is_blank}
-use Rattle.text.specs.Runs.{run, past, without, trim_end, trim}
-use Rattle.text.proofs.RunLaws.{past_first}
+use Rattle.text.specs.Runs.{past, without, trim_end, trim}
+use Rattle.text.proofs.RunLaws.{past_first, past_within}
 
 -- what is left without the blanks at the end is the front of the text
 pub trim_end_front : (s : List ℕ) → take (length (trim_end s)) s ≡ trim_end s
@@ -27,11 +27,6 @@ trim_end_front (x ∷ xs) = go (every is_blank (x ∷ xs)) (trim_end_front xs)
 -- and no longer than it
 pub trim_end_length : (s : List ℕ) → length (trim_end s) ≤ length s
 trim_end_length s = omega (arith, ap length (trim_end_front s), length-take (length (trim_end s)) s)
-
--- nor is a text without its outer blanks
-pub trim_length : (s : List ℕ) → length (trim s) ≤ length s
-unfolding trim without
-trim_length s = omega (arith, trim_end_length (drop (run is_blank s) s), length-drop (run is_blank s) s)
 
 -- where the last byte passes a test, it holds at every byte if it does at those before
 every_on : (f : ℕ → Bool) (s : List ℕ) (x : ℕ) → f x ≡ true → every f (s ++ (x ∷ [])) ≡ every f s
@@ -72,9 +67,9 @@ module _ (s : List ℕ) (a : ℕ) where
   end_whole = rw (take_all (length s - a) (drop a s) (omega (arith, length-drop a s)))
 
   -- a text of no bytes
-  pub end_none : (e : ℕ) → a ≤ e → e ≤ a → text_end s a e ≡ e
+  pub end_none : (e : ℕ) → e ≤ a → text_end s a e ≡ a
   unfolding text_end part trim_end
-  end_none e h k = let z : e - a ≡ 0 = omega arith in rw z (omega arith)
+  end_none e h = let z : e - a ≡ 0 = omega arith in rw z (omega arith)
 
   module _ (e : ℕ) (more : a < e) (fits : e ≤ length s) where
     -- a text is what it is without its last byte, and that byte
@@ -97,14 +92,13 @@ module _ (s : List ℕ) (a : ℕ) where
         let w : trim_end (part s a e) ≡ part s a e = rw part_last (trim_end_off (part s a (e - 1)) (get_or s (e - 1) 0) b) in
         rw w (omega (arith, part_length s a e (omega arith) fits))
 
-module _ (s : List ℕ) (a e : ℕ) (ends : e ≡ a + length (trim_end (drop a s))) where
-  -- the end that is found lies within the text
-  pub end_within : a ≤ length s → e ≤ length s
-  end_within h = omega (arith, trim_end_length (drop a s), length-drop a s)
+-- from behind the blanks in front up to those at the end stands the text without its outer blanks
+pub trim_is : (s : List ℕ) (a n : ℕ) → a ≡ past is_blank s 0 → n ≡ length (trim_end (drop a s)) → take n (drop a s) ≡ trim s
+unfolding trim without
+trim_is s a n w e = rw e (trim_end_front (drop a s) ∙ ap (λ (k : ℕ). trim_end (drop k s)) (w ∙ past_first is_blank s))
 
-  -- from behind the blanks in front up to it stands the text without its outer blanks
-  pub trim_is : a ≡ past is_blank s 0 → part s a e ≡ trim s
-  unfolding trim without part
-  trim_is w =
-      let n : e - a ≡ length (trim_end (drop a s)) = omega arith in
-      rw n (trim_end_front (drop a s) ∙ ap (λ (k : ℕ). trim_end (drop k s)) (w ∙ past_first is_blank s))
+-- what a cut at both ends of a text asks
+pub ruleset trim_steps = (past_within, trim_end_length, trim_is, length-take, length-drop)
+
+-- what a search for the end of a text asks
+pub ruleset end_steps = (end_whole, end_none, end_on, end_off)

@@ -4,10 +4,10 @@ use Rattle.std.specs.Prelude.{ℕ, List, Bool, ◌&&◌, ◌||◌, not, leb, eqb
 use Rattle.laws.specs.Choose.{pick}
 use Rattle.laws.specs.Lists.{any, listed}
 use Rattle.laws.specs.Bytes.{bytes}
-use Rattle.text.specs.declared.class.Class.{Class}
-use Rattle.text.specs.declared.class.Class.TheVariants.{Token, Value}
 use Rattle.text.specs.declared.class.Kind.{Kind}
 use Rattle.text.specs.declared.class.Kind.TheVariants.{Digit, Blank, Visible, Plain}
+use Rattle.text.specs.declared.class.Class.{Class}
+use Rattle.text.specs.declared.class.Class.TheVariants.{Token, Value}
 
 -- the number is one of a up to e
 abbrev pub from_to : ℕ → ℕ → ℕ → Bool
@@ -62,3 +62,7 @@ is_kind Plain = is_plain
 abbrev pub is_class : Class → ℕ → Bool
 is_class Token = is_token
 is_class Value = is_value
+
+-- a byte is another than c
+abbrev pub is_other : ℕ → ℕ → Bool
+is_other c b = not (eqb b c)

@@ -1,11 +1,9 @@
 -- Decimal numbers with a bound. The value is bounded, not the count of digits.
 -- Rule 6.18 of docs/RULES.md.
-use Rattle.std.specs.Prelude.{ℕ, ◌+◌, ◌-◌, ◌*◌, Bool, true, false, ◌&&◌, not, List, [], ◌∷◌, leb}
+use Rattle.std.specs.Prelude.{ℕ, ◌+◌, ◌-◌, ◌*◌, Bool, true, false, ◌&&◌, not, List, [], ◌∷◌, leb, Option, Some, None}
 use Rattle.laws.specs.Choose.{pick}
 use Rattle.laws.specs.Lists.{every, empty}
 use Rattle.text.specs.Class.{is_digit}
-use Rattle.text.specs.declared.number.Num.{Num}
-use Rattle.text.specs.declared.number.Num.TheVariants.{Value, Unfit}
 
 -- the text is digits: one or more, and nothing else
 unfoldable pub is_digits : List ℕ → Bool
@@ -20,16 +18,16 @@ decimal_from v (x ∷ xs) = decimal_from (v * 10 + (x - 48)) xs
 unfoldable pub decimal : List ℕ → ℕ
 decimal s = decimal_from 0 s
 
--- what the text says as a number of at most so much
-unfoldable pub number_of : ℕ → List ℕ → Num
-number_of most s = pick (is_digits s && leb (decimal s) most) (Value (decimal s)) Unfit
+-- what the text says as a number of at most so much; nothing where it is none
+unfoldable pub number_of : ℕ → List ℕ → Option ℕ
+number_of most s = pick (is_digits s && leb (decimal s) most) (Some (decimal s)) None
 
 -- it is a number
-unfoldable pub is_fit : Num → Bool
-is_fit (Value n) = true
-is_fit Unfit = false
+unfoldable pub is_fit : Option ℕ → Bool
+is_fit (Some n) = true
+is_fit None = false
 
 -- its value, or another where it is none
-unfoldable pub value_or : ℕ → Num → ℕ
-value_or other (Value n) = n
-value_or other Unfit = other
+unfoldable pub value_or : ℕ → Option ℕ → ℕ
+value_or other (Some n) = n
+value_or other None = other

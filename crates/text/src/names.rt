@@ -7,28 +7,24 @@ ghost use Rattle.text.specs.Names.{lower, same_text};
 pub fn small(b: u8) -> u8
     ensures { result ≡ lower b }
 {
-    if b < 65 {
-        return b;
+    match b {
+        b'A'..=b'Z' => b + 32,
+        _ => b,
     }
-    if 90 < b {
-        return b;
-    }
-    b + 32
 }
 
 // Whether two texts are the same in either case.
+#[tactic(auto, using(crate::proofs::NameLaws::text_steps))]
 pub fn same_text(s: &[u8], t: &[u8]) -> bool
     ensures { result ≡ same_text s.now t.now }
 {
     if s.len() != t.len() {
         return false;
     }
-    let mut i = 0;
-    while i < s.len() {
-        if small(s[i]) != small(t[i]) {
+    for (i, b) in s.iter().enumerate() {
+        if small(*b) != small(t[i]) {
             return false;
         }
-        i += 1;
     }
     true
 }

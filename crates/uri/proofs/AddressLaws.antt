@@ -7,6 +7,8 @@ use native.Mathlib.Omega.{arith}
 use lib.Dec.{eqb, ltb, leb}
 use lib.ListN.{length}
 use borrow.Author.Tests.{eqb-true, leb-true, eq-eqb, ne_eqb}
+use Rattle.std.proofs.Common.{Some, None}
+use Rattle.std.specs.Bool.{then_some}
 use Rattle.laws.specs.Choose.{pick}
 use Rattle.laws.specs.Lists.{byte_at, part, any, every, same, empty}
 use Rattle.laws.proofs.Lists.{every_map}
@@ -24,8 +26,7 @@ use Rattle.uri.specs.Key.{weighed, key_of}
 use Rattle.uri.specs.All.{all_uri}
 use Rattle.uri.specs.Parts.{reading_of}
 use Rattle.uri.specs.declared.reading.Ends.{Ends}
-use Rattle.uri.specs.declared.reading.Reading.{Reading}
-use Rattle.uri.proofs.StepLaws.{pieces_some, empty_some}
+use Rattle.uri.proofs.PieceLaws.{pieces_some, empty_some}
 use Rattle.uri.proofs.AlikeLaws.{read_uri, read_none, alike_self, alike_turned}
 
 -- the parts of a text
@@ -179,24 +180,6 @@ module _ (s : List ℕ) (e : Ends) where
   unfolding is_open parts_of headers_of pieces_behind empty
   open_each h = rw (ne_eqb (byte_at s e.parameters) 63 h) (sym (and_true _) ∙ every_map folded is_loose (parameters_of s e))
 
-two_together : (a b c : Bool) → (a && (b && c)) ≡ ((a && b) && c)
-two_together true b c = refl
-two_together false b c = refl
-
-module _ (u v : Uri) where
-  -- where the schemes differ, nothing else is asked
-  pub written_scheme : same_text u.scheme v.scheme ≡ false → same_written u v ≡ false
-  unfolding same_written
-  written_scheme e = rw e
-
-  -- where they are the same, userinfo and place are
-  pub written_rest : same_text u.scheme v.scheme ≡ true
-      → same_written u v
-      ≡ ((same (normal u.user) (normal v.user) && same (normal u.password) (normal v.password))
-      && (same_text u.host v.host && same u.port v.port))
-  unfolding same_written
-  written_rest e = rw e (two_together (same (normal u.user) (normal v.user)) (same (normal u.password) (normal v.password)) _)
-
 -- what the five comparisons say
 record Written (u v : Uri) : Type 0 where
   scheme : same_text u.scheme v.scheme ≡ true
@@ -318,11 +301,25 @@ pub same_short : (s a : List ℕ) → is_table_address a ≡ true → is_uri s �
 unfolding same_address
 same_short s a h y = rw h (sym (short_alike s a y (address_uri a h) (address_bare a h)))
 
+-- what is told where a test holds, and where it fails
+module _ {A : Type 0} (y : A) where
+  told_holds : (b : Bool) {x : A} → Some x ≡ then_some b y → b ≡ true
+  told_holds true e = refl
+  told_holds false e = cc
+
+  told_same : (b : Bool) {x : A} → Some x ≡ then_some b y → x ≡ y
+  told_same true e = cc
+  told_same false e = cc
+
+  told_fails : (b : Bool) → None ≡ then_some b y → b ≡ false
+  told_fails true e = cc
+  told_fails false e = refl
+
 -- the same, with what was read of both
-pub same_asked : (s a : List ℕ) → is_table_address a ≡ true → {r q : Reading} → r ≡ reading_of s → r.fits ≡ true → q ≡ reading_of a
-    → same_address s a ≡ (same_written (parts_of s r.ends) (parts_of a q.ends) && is_open (parts_of s r.ends))
+pub same_asked : (s a : List ℕ) {e f : Ends} → Some f ≡ then_some (is_table_address a) (ends_of a) → Some e ≡ reading_of s
+    → same_address s a ≡ (same_written (parts_of s e) (parts_of a f) && is_open (parts_of s e))
 unfolding reading_of reaches
-same_asked s a h e y f = rw (e, f) (same_short s a h (sym (ap (λ (r : Reading). r.fits) e) ∙ y))
+same_asked s a h k = rw (told_same _ _ h, told_same _ _ k) (same_short s a (told_holds _ _ h) (told_holds _ _ k))
 
 -- what is no URI is no table address's
 pub same_none : (s a : List ℕ) → is_uri s ≡ false → same_address s a ≡ false
@@ -333,14 +330,14 @@ same_none s a e = go (same_address s a) refl
     go false h = h
 
 -- the same, with what was read of it
-pub same_unread : (s a : List ℕ) → {r : Reading} → r ≡ reading_of s → r.fits ≡ false → same_address s a ≡ false
+pub same_unread : (s a : List ℕ) → None ≡ reading_of s → same_address s a ≡ false
 unfolding reading_of
-same_unread s a e y = same_none s a (sym (ap (λ (r : Reading). r.fits) e) ∙ y)
+same_unread s a e = same_none s a (told_fails _ _ e)
 
 -- nor is any text what is no table address
-pub same_not : (s a : List ℕ) → is_table_address a ≡ false → same_address s a ≡ false
+pub same_not : (s a : List ℕ) → None ≡ then_some (is_table_address a) (ends_of a) → same_address s a ≡ false
 unfolding same_address
-same_not s a e = rw e
+same_not s a e = rw (told_fails _ _ e)
 
 -- every table address is itself
 pub same_self : (a : List ℕ) → is_table_address a ≡ true → same_address a a ≡ true

@@ -2,21 +2,19 @@
 use mathlib.Core.Path.{◌≡◌, refl, ◌∙◌, ap₂}
 use mathlib.Core.Bool.{Bool, true, false, ◌&&◌, ◌||◌, or-false}
 use mathlib.Core.List.{List, [], ◌∷◌}
-use Prim.Native.Nat.{ℕ, ◌+◌, ◌-◌, ◌<◌, ◌≤◌}
+use Prim.Native.Nat.{ℕ, ◌-◌, ◌<◌, ◌≤◌}
 use native.Mathlib.Omega.{arith}
 use lib.Dec.{eqb}
-use lib.ListN.{length, get_or, drop}
+use lib.ListN.{length, get_or}
 use borrow.Author.Tests.{eqb-true, eq-eqb, ne_eqb}
 use Rattle.laws.specs.Lists.{byte_at, part, every, empty}
-use Rattle.text.specs.Runs.{past}
 use Rattle.text.proofs.RunLaws.{byte_there}
-use Rattle.uri.specs.Classes.{is_other}
 use Rattle.uri.specs.Pieces.{pieces, last_piece, but_last}
 use Rattle.uri.specs.Host.{is_iPv4, is_hex4, is_behind_gap, is_behind_hex4, is_front_gap, is_hexpart, last_byte, is_iPv6, is_reference}
 use Rattle.uri.specs.Groups.{stepped, may_end}
 use Rattle.uri.specs.declared.groups.Place.{Place}
 use Rattle.uri.specs.declared.groups.Place.TheVariants.{Begin, Front, Behind, Gap, After, Closed, Wrong}
-use Rattle.uri.proofs.StepLaws.{pieces_some, piece_end, piece_on_lem}
+use Rattle.uri.proofs.PieceLaws.{pieces_some}
 
 -- what may stand from a place on
 abbrev rest : Place → List (List ℕ) → Bool
@@ -74,30 +72,25 @@ rest_end Wrong = refl
 abbrev pub groups : Place → List (List ℕ) → Bool
 groups k ps = rest k ps || (is_iPv4 (last_piece ps) && rest k (but_last ps))
 
--- the first of several groups
-groups_first : (k : Place) (p : List ℕ) (ps : List (List ℕ)) → 0 < length ps → groups k (p ∷ ps) ≡ groups (stepped k p) ps
+-- what is left to read, from a place on; where nothing is, the place decides, or the last group and the place before it
+abbrev pub left_groups : Place → Place → List ℕ → List (List ℕ) → Bool
+left_groups k before last [] = may_end k || (is_iPv4 last && may_end before)
+left_groups k before last (p ∷ ps) = groups k (p ∷ ps)
+
+-- at the begin all of it is
+pub groups_begin : (c : ℕ) (s : List ℕ) (k before : Place) (last : List ℕ) → groups k (pieces c s) ≡ left_groups k before last (pieces c s)
+groups_begin c s k before last = go (pieces c s) (pieces_some c s)
+  where
+    go : (ps : List (List ℕ)) → 0 < length ps → groups k ps ≡ left_groups k before last ps
+    go [] h = absurd (omega arith)
+    go (p ∷ ps) h = refl
+
+-- one group more
+pub groups_step : (k before : Place) (last p : List ℕ) (ps : List (List ℕ)) → left_groups k before last (p ∷ ps) ≡ left_groups (stepped k p) k p ps
 unfolding last_piece but_last
-groups_first k p [] h = absurd (omega arith)
-groups_first k p (q ∷ ps) h =
+groups_step k before last p [] = ap₂ (λ a b. a || (is_iPv4 p && b)) (rest_on k p [] ∙ rest_end (stepped k p)) (rest_end k)
+groups_step k before last p (q ∷ ps) =
     ap₂ (λ a b. a || (is_iPv4 (last_piece (q ∷ ps)) && b)) (rest_on k p (q ∷ ps)) (rest_on k p (but_last (q ∷ ps)))
-
--- the last group
-groups_last : (k : Place) (p : List ℕ) → groups k (p ∷ []) ≡ (may_end (stepped k p) || (is_iPv4 p && may_end k))
-unfolding last_piece but_last
-groups_last k p = ap₂ (λ a b. a || (is_iPv4 p && b)) (rest_on k p [] ∙ rest_end (stepped k p)) (rest_end k)
-
--- an IPv6 address, group by group
-module _ (k : Place) (s : List ℕ) (i e : ℕ) (h : i ≤ length s) (p : e ≡ past (is_other 58) s i) where
-  -- a group at the end
-  pub groups_end : e ≡ length s
-      → groups k (pieces 58 (drop i s)) ≡ (may_end (stepped k (part s i e)) || (is_iPv4 (part s i e) && may_end k))
-  groups_end q = rw (piece_end 58 s i e h p q) (groups_last k (part s i e))
-
-  -- a group, and others behind it
-  pub groups_on : (e ≡ length s → ⊥)
-      → groups k (pieces 58 (drop i s)) ≡ groups (stepped k (part s i e)) (pieces 58 (drop (e + 1) s))
-  groups_on q =
-      rw (piece_on_lem 58 s i e h p q) (groups_first k (part s i e) (pieces 58 (drop (e + 1) s)) (pieces_some 58 (drop (e + 1) s)))
 
 -- a text too short for two brackets is no reference
 pub reference_short : (s : List ℕ) → length s < 2 → is_reference s ≡ false

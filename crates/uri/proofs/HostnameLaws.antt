@@ -17,7 +17,7 @@ use Rattle.uri.specs.Classes.{is_label_byte, is_name_byte}
 use Rattle.uri.specs.Pieces.{on_first, pieces}
 use Rattle.uri.specs.Host.{is_label, is_top_label, is_end, are_labels, is_hostname}
 use Rattle.uri.specs.All.{all_uri}
-use Rattle.uri.proofs.StepLaws.{empty_some, pieces_some}
+use Rattle.uri.proofs.PieceLaws.{empty_some, pieces_some}
 use Rattle.uri.proofs.PastLaws.{part_run, past_stop, past_none, past_in}
 use Rattle.uri.proofs.LabelLaws.{top_none}
 

@@ -1,13 +1,12 @@
 pub mod ClassLaws
+pub mod StandLaws
 pub mod PieceLaws
-pub mod StepLaws
 pub mod EveryLaws
+pub mod EqLaws
 pub mod UnitLaws
 pub mod EscapedLaws
 pub mod WholeLaws
-pub mod HeadLaws
 pub mod NameLaws
-pub mod ParameterLaws
 pub mod OctetLaws
 pub mod GroupLaws
 pub mod PastLaws

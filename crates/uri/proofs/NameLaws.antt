@@ -1,31 +1,32 @@
--- One step of a pass over the name of a parameter: it ends with the text or at a bare =.
-use mathlib.Core.Path.{◌≡◌}
-use mathlib.Core.List.{List, [], ◌∷◌}
-use Prim.Native.Nat.{ℕ, ◌<◌, ◌≤◌}
-use lib.ListN.{length, drop}
-use borrow.Author.Tests.{eq-eqb, ne_eqb}
+-- The name of a parameter in std's words: each unit made small, as far as no bare = comes.
+use mathlib.Core.Path.{◌≡◌, refl, ap}
+use mathlib.Core.Bool.{Bool, true, false, cond}
+use mathlib.Core.List.{List, [], ◌∷◌, map}
+use Prim.Native.Nat.{ℕ, suc, ◌+◌}
+use native.Mathlib.Omega.{arith}
+use lib.ListN.{take}
+use Rattle.std.specs.List.{prefix_len}
+use Rattle.laws.specs.Choose.{pick}
 use Rattle.text.specs.Runs.{run, front}
 use Rattle.text.specs.Names.{lower, lowered}
 use Rattle.uri.specs.Classes.{is_other}
-use Rattle.uri.specs.Escapes.{folded}
-use Rattle.uri.specs.Units.{unit_at}
+use Rattle.uri.specs.Escapes.{normal, folded}
 use Rattle.uri.specs.Alike.{name_of}
-use Rattle.uri.specs.declared.escapes.Unit.{Unit}
-use Rattle.uri.proofs.UnitLaws.{normal_end, unit_step}
 
-module _ (p : List ℕ) (i : ℕ) where
-  -- at the end no name is left
-  pub name_end : length p ≤ i → name_of (folded (drop i p)) ≡ []
-  unfolding name_of folded lowered front run
-  name_end h = rw (normal_end p i h)
+lowered_map : (s : List ℕ) → map lower s ≡ lowered s
+unfolding lowered
+lowered_map [] = refl
+lowered_map (x ∷ xs) = ap (◌∷◌ (lower x)) (lowered_map xs)
 
-  module _ (h : i < length p) (u : Unit) (e : u ≡ unit_at p i) (v : ℕ) (w : v ≡ lower u.value) where
-    -- and none at a bare =
-    pub name_stop : v ≡ 61 → name_of (folded (drop i p)) ≡ []
-    unfolding name_of folded lowered front run is_other
-    name_stop q = rw (unit_step p i h u e, ← w, eq-eqb v 61 q)
+run_prefix : (f : ℕ → Bool) (s : List ℕ) → prefix_len f s ≡ run f s
+unfolding run
+run_prefix f [] = refl
+run_prefix f (x ∷ xs) = rw (run_prefix f xs) (go (f x) (run f xs))
+  where
+    go : (b : Bool) (n : ℕ) → cond b (1 + n) 0 ≡ pick b (suc n) 0
+    go true n = omega arith
+    go false n = refl
 
-    -- any other unit is its next byte
-    pub name_on : (v ≡ 61 → ⊥) → name_of (folded (drop i p)) ≡ v ∷ name_of (folded (drop u.next p))
-    unfolding name_of folded lowered front run is_other
-    name_on n = rw (unit_step p i h u e, ← w, ne_eqb v 61 n)
+pub name_is : (p : List ℕ) → take (prefix_len (is_other 61) (map lower (normal p))) (map lower (normal p)) ≡ name_of (folded p)
+unfolding name_of folded front
+name_is p = rw (run_prefix, lowered_map)

@@ -2,19 +2,15 @@
 use mathlib.Core.Path.{◌≡◌, refl, sym, ◌∙◌, ap}
 use mathlib.Core.Bool.{Bool, true, false, ◌&&◌, and_comm, and-false}
 use mathlib.Core.List.{List, [], ◌∷◌}
-use Prim.Native.Nat.{ℕ, suc, ◌+◌, ◌-◌, ◌<◌, ◌≤◌}
+use Prim.Native.Nat.{ℕ, suc, ◌-◌}
 use native.Mathlib.Omega.{arith}
 use lib.Dec.{eqb, leb}
-use lib.ListN.{length, drop}
+use lib.ListN.{length}
 use borrow.Author.Tests.{eqb-true, eqb-false, eq-eqb, ne_eqb, le-leb}
-use Rattle.laws.specs.Lists.{part, every, empty}
+use Rattle.laws.specs.Lists.{every, empty}
 use Rattle.text.specs.Class.{is_digit}
 use Rattle.text.specs.Number.{is_digits}
-use Rattle.text.specs.Runs.{past}
-use Rattle.uri.specs.Classes.{is_other}
-use Rattle.uri.specs.Pieces.{pieces}
 use Rattle.uri.specs.Host.{is_octet}
-use Rattle.uri.proofs.StepLaws.{pieces_some, piece_end, piece_on_lem, piece_fails}
 
 -- two comparisons that hold together give the same answer
 eqb_alike : (a b c d : ℕ) → (a ≡ b → c ≡ d) → (c ≡ d → a ≡ b) → eqb a b ≡ eqb c d
@@ -34,32 +30,23 @@ octet_is (x ∷ xs) = rw (le-leb 1 (length (x ∷ xs)) (omega arith)) (and_comm 
 abbrev pub octets : ℕ → List (List ℕ) → Bool
 octets n ps = eqb (length ps) n && every is_octet ps
 
--- a first one of them, and the others
-octets_first : (n : ℕ) (p : List ℕ) (ps : List (List ℕ)) → 0 < n → is_octet p ≡ true → octets n (p ∷ ps) ≡ octets (n - 1) ps
+-- none is left
+pub octets_end : (n : ℕ) → octets n [] ≡ eqb n 0
 unfolding every
-octets_first n p ps h w =
-    rw w (ap (λ t. t && every is_octet ps) (eqb_alike (suc (length ps)) n (length ps) (n - 1) (λ q. omega arith) (λ q. omega arith)))
+octets_end n = and_comm (eqb 0 n) true ∙ eqb_alike 0 n n 0 sym sym
 
--- no text has no piece
-pub octets_none : (c : ℕ) (s : List ℕ) → octets 0 (pieces c s) ≡ false
-octets_none c s = rw (ne_eqb (length (pieces c s)) 0 (λ q. omega (arith, pieces_some c s)))
+module _ (n : ℕ) (p : List ℕ) (ps : List (List ℕ)) where
+  -- one too many
+  pub octets_none : n ≡ 0 → octets n (p ∷ ps) ≡ false
+  octets_none e = rw (ne_eqb (length (p ∷ ps)) n (λ q. omega (arith, q)))
 
--- an IPv4 address, piece by piece
-module _ (s : List ℕ) (i e n : ℕ) (h : i ≤ length s) (p : e ≡ past (is_other 46) s i) where
-  -- a piece that is no number
-  pub octets_off : is_octet (part s i e) ≡ false → octets n (pieces 46 (drop i s)) ≡ false
-  octets_off w = rw (piece_fails 46 s i e h p is_octet w) (and-false (eqb (length (pieces 46 (drop i s))) n))
+  -- one that is no number
+  pub octets_off : is_octet p ≡ false → octets n (p ∷ ps) ≡ false
+  unfolding every
+  octets_off w = rw w (and-false (eqb (length (p ∷ ps)) n))
 
-  module _ (some : 0 < n) (w : is_octet (part s i e) ≡ true) where
-    -- a number at the end
-    pub octets_end : e ≡ length s → octets n (pieces 46 (drop i s)) ≡ eqb (n - 1) 0
-    unfolding every
-    octets_end q =
-        rw (piece_end 46 s i e h p q)
-        (octets_first n (part s i e) [] some w
-        ∙ and_comm (eqb 0 (n - 1)) true
-        ∙ eqb_alike 0 (n - 1) (n - 1) 0 sym sym)
-
-    -- a number, and others behind it
-    pub octets_on : (e ≡ length s → ⊥) → octets n (pieces 46 (drop i s)) ≡ octets (n - 1) (pieces 46 (drop (e + 1) s))
-    octets_on q = rw (piece_on_lem 46 s i e h p q) (octets_first n (part s i e) (pieces 46 (drop (e + 1) s)) some w)
+  -- a number, and others behind it
+  pub octets_on : (n ≡ 0 → ⊥) → is_octet p ≡ true → octets n (p ∷ ps) ≡ octets (n - 1) ps
+  unfolding every
+  octets_on h w =
+      rw w (ap (λ t. t && every is_octet ps) (eqb_alike (suc (length ps)) n (length ps) (n - 1) (λ q. omega arith) (λ q. omega arith)))

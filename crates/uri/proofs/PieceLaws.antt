@@ -1,60 +1,71 @@
--- One step of a pass over the pieces of a text: the piece at a position, and the pieces behind it.
-use mathlib.Core.Path.{◌≡◌, refl, ◌∙◌, ap, ap₂}
-use mathlib.Core.Bool.{Bool, true, false, not}
-use mathlib.Core.List.{List, [], ◌∷◌}
-use Prim.Native.Nat.{ℕ, suc, ◌+◌, ◌-◌, ◌<◌, ◌≤◌}
-use native.Mathlib.Nat.{not-suc-le-zero, le_of_suc-le-suc}
+-- The pieces of a text are those that `split` gives, one by one.
+use mathlib.Core.Path.{◌≡◌, refl, sym}
+use mathlib.Core.Bool.{Bool, true, false, cond}
+use mathlib.Core.List.{List, [], ◌∷◌, ◌++◌}
+use Prim.Native.Nat.{ℕ, ◌<◌}
+use native.Mathlib.Numerals.{add-one}
 use native.Mathlib.Omega.{arith}
 use lib.Dec.{eqb}
-use lib.ListN.{length, take, drop, length-drop}
-use lib.Seq.{drop-drop}
+use lib.ListN.{length, drop, drop_of_length-le}
+use lib.Seq.{drop-cons}
+use denote.Param.Members.{Mut}
+use denote.Ref.{Bor}
+use Rattle.std.proofs.Common.{Option, Some, None}
+use Rattle.std.specs.Fn.{CalledAt}
+use Rattle.std.specs.Iterator.{Yields}
+use Rattle.std.specs.Slice.Iter.{split_steps, split_rest, split_done, split_callee}
+use Rattle.std.specs.List.{slice_split, onto_first}
+use Rattle.std.proofs.lemmas.Iterator.{YieldsList}
+use Rattle.std.proofs.lemmas.Iterator.Consumers.{YieldsList-turn, YieldsList-end}
+use Rattle.std.proofs.lemmas.Iterator.Splits.{YieldsList-from_slice_split}
+use Rattle.std.proofs.lemmas.List.{length_push}
 use Rattle.laws.specs.Choose.{pick}
-use Rattle.laws.specs.Lists.{part}
-use Rattle.text.specs.Runs.{run, past}
-use Rattle.uri.specs.Classes.{is_other}
+use Rattle.laws.specs.Lists.{empty}
 use Rattle.uri.specs.Pieces.{on_first, pieces}
 
--- a text without the byte is one piece
-run_last : (c : ℕ) (t : List ℕ) → run (is_other c) t ≡ length t → pieces c t ≡ t ∷ []
-unfolding run is_other pieces on_first
-run_last c [] e = refl
-run_last c (x ∷ xs) e = go (eqb x c) e (run_last c xs)
+pub pieces_split : (c : ℕ) (s : List ℕ) → slice_split (λ b. eqb b c) s ≡ pieces c s
+unfolding pieces on_first
+pieces_split c [] = refl
+pieces_split c (x ∷ xs) = rw (pieces_split c xs) (go (eqb x c) (pieces c xs))
   where
-    go : (b : Bool) → pick (not b) (suc (run (is_other c) xs)) 0 ≡ suc (length xs) → (run (is_other c) xs ≡ length xs → pieces c xs ≡ xs ∷ [])
-        → pick b ([] ∷ pieces c xs) (on_first x (pieces c xs)) ≡ (x ∷ xs) ∷ []
-    go true e r = absurd (omega (arith, e))
-    go false e r = ap (on_first x) (r (omega (arith, e)))
+    first : (ps : List (List ℕ)) → onto_first x ps ≡ on_first x ps
+    first [] = refl
+    first (p ∷ ps) = refl
 
--- a text with the byte: the piece before it, and the pieces behind it
-run_next : (c : ℕ) (t : List ℕ) → run (is_other c) t < length t
-    → pieces c t ≡ take (run (is_other c) t) t ∷ pieces c (drop (suc (run (is_other c) t)) t)
-unfolding run is_other pieces on_first
-run_next c [] h = absurd (not-suc-le-zero h)
-run_next c (x ∷ xs) h = go (eqb x c) h (run_next c xs)
+    go : (b : Bool) (ps : List (List ℕ)) → cond b ([] ∷ ps) (onto_first x ps) ≡ pick b ([] ∷ ps) (on_first x ps)
+    go true ps = refl
+    go false ps = first ps
+
+-- a text that is cut at the bytes c yields its pieces
+pub yields_pieces : {F : Type 0} {s : _} (g : Mut F (Bor ℕ × Unit {0}) Bool) (c : ℕ) {f : F} (xs : List ℕ) → split_rest s ≡ xs → split_done s ≡ false → split_callee s ≡ f
+    → ((x : ℕ) (b : Bool) (q : F) → CalledAt g f x b q → (q ≡ f) × (b ≡ eqb x c)) → YieldsList (split_steps g) (λ x. x.now) s (pieces c xs)
+yields_pieces g c xs r d e k = rw (sym (pieces_split c xs)) (YieldsList-from_slice_split g (λ b. eqb b c) xs r d e k)
+
+-- what is left of a list that an iterator yields
+module _ {S A B : Type 0} {steps : S → Option A → S → Type 0} {v : A → B} {s : S} {all : List B} (road : YieldsList steps v s all) (xs : List A) (t : S) (y : Yields steps s xs t) (r : Option A) (u : S) where
+  -- where an item comes, it stands first
+  pub left_turn : (x : A) → r ≡ Some x → steps t r u → drop (length xs) all ≡ v x ∷ drop (length (xs ++ x ∷ [])) all
+  left_turn x e i =
+      let h = YieldsList-turn road xs t y r u x e i in
+      rw (drop-cons all (length xs) (v x) h.0, ← h.1, length_push, add-one)
+
+  -- where none comes, nothing is left
+  pub left_end : r ≡ None → steps t r u → drop (length xs) all ≡ []
+  left_end e i = let h = YieldsList-end road xs t y r u e i in drop_of_length-le all (omega (arith, h.1))
+
+-- there is always a piece
+pub pieces_some : (c : ℕ) (s : List ℕ) → 0 < length (pieces c s)
+unfolding pieces on_first
+pieces_some c [] = omega arith
+pieces_some c (x ∷ xs) = go (eqb x c) (pieces c xs)
   where
-    go : (b : Bool) → pick (not b) (suc (run (is_other c) xs)) 0 < suc (length xs)
-        → (run (is_other c) xs < length xs → pieces c xs ≡ take (run (is_other c) xs) xs ∷ pieces c (drop (suc (run (is_other c) xs)) xs))
-        → pick b ([] ∷ pieces c xs) (on_first x (pieces c xs))
-        ≡ take (pick (not b) (suc (run (is_other c) xs)) 0) (x ∷ xs) ∷ pieces c (drop (suc (pick (not b) (suc (run (is_other c) xs)) 0)) (x ∷ xs))
-    go true h r = refl
-    go false h r = ap (on_first x) (r (le_of_suc-le-suc h))
+    go : (b : Bool) (ps : List (List ℕ)) → 0 < length (pick b ([] ∷ ps) (on_first x ps))
+    go true ps = omega arith
+    go false [] = omega arith
+    go false (p ∷ ps) = omega arith
 
-module _ (c : ℕ) (s : List ℕ) (i : ℕ) where
-  -- from a position on: no such byte follows, and the rest is the last piece
-  pub pieces_last : i ≤ length s → past (is_other c) s i ≡ length s → pieces c (drop i s) ≡ drop i s ∷ []
-  unfolding past
-  pieces_last h e = run_last c (drop i s) (omega (arith, e, length-drop i s))
-
-  -- one follows: the piece before it, and the pieces behind it
-  pub pieces_next : (e : ℕ) → past (is_other c) s i ≡ e → e < length s → pieces c (drop i s) ≡ part s i e ∷ pieces c (drop (e + 1) s)
-  unfolding past part
-  pieces_next e p h =
-      run_next c (drop i s) (omega (arith, p, length-drop i s))
-      ∙ ap₂ ◌∷◌ (ap (λ (k : ℕ). take k (drop i s)) long)
-      (ap (pieces c) (drop-drop (suc (run (is_other c) (drop i s))) i s ∙ ap (λ (k : ℕ). drop k s) behind))
-    where
-      long : run (is_other c) (drop i s) ≡ e - i
-      long = omega (arith, p)
-
-      behind : i + suc (run (is_other c) (drop i s)) ≡ e + 1
-      behind = omega (arith, p)
+-- a list that has a length is not empty
+pub empty_some : {A : Type 0} (xs : List A) → (length xs ≡ 0 → ⊥) → empty xs ≡ false
+unfolding empty
+empty_some [] n = absurd (n refl)
+empty_some (x ∷ xs) n = refl

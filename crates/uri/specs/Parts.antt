@@ -1,5 +1,6 @@
 -- What the code holds of a URI while it reads it.
-use Rattle.std.specs.Prelude.{ℕ, Bool, List}
+use Rattle.std.specs.Prelude.{ℕ, Bool, List, Option}
+use Rattle.std.specs.Bool.{then_some}
 use Rattle.laws.specs.Lists.{part}
 use Rattle.uri.specs.Escapes.{folded}
 use Rattle.uri.specs.Host.{is_label, is_top_label, is_host}
@@ -9,7 +10,7 @@ use Rattle.uri.specs.declared.pieces.Piece.{Piece}
 use Rattle.uri.specs.declared.pieces.Piece.TheVariants.{Parameter, Header, Loose}
 use Rattle.uri.specs.declared.host.Label.{Label}
 use Rattle.uri.specs.declared.host.Host.{Host}
-use Rattle.uri.specs.declared.reading.Reading.{Reading}
+use Rattle.uri.specs.declared.reading.Ends.{Ends}
 
 -- what is asked of each piece
 abbrev pub is_piece : Piece → List ℕ → Bool
@@ -25,6 +26,6 @@ label_of p = record { fits = is_label p; top = is_top_label p }
 unfoldable pub host_of : List ℕ → ℕ → Host
 host_of s at = record { end = host_end s at; fits = is_host (part s at (host_end s at)) }
 
--- the ends of a text's parts, and whether it is a URI
-unfoldable pub reading_of : List ℕ → Reading
-reading_of s = record { ends = ends_of s; fits = is_uri s }
+-- the ends of a text's parts; nothing where it is no URI
+unfoldable pub reading_of : List ℕ → Option Ends
+reading_of s = then_some (is_uri s) (ends_of s)

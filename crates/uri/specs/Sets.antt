@@ -11,14 +11,14 @@ is_in s b = pick (ltb b 64) (eqb (s.low / 2 ^ b % 2) 1) (pick (ltb b 128) (eqb (
 
 -- the bytes of each class
 unfoldable pub set_of : Class → Set
-set_of User = record { low = 12393906114394062848; high = 5188146764422578174 }
-set_of Password = record { low = 2593932587747508224; high = 5188146764422578174 }
-set_of Parameter = record { low = 576443099987836928; high = 5188146765093666814 }
-set_of Header = record { low = 9799814861964705792; high = 5188146765093666814 }
-set_of Label = record { low = 287984085547089920; high = 576460743847706622 }
-set_of Name = record { low = 288054454291267584; high = 576460743847706622 }
-set_of Alphanum = record { low = 287948901175001088; high = 576460743847706622 }
-set_of Letter = record { low = 0; high = 576460743847706622 }
-set_of Digit = record { low = 287948901175001088; high = 0 }
-set_of Hex = record { low = 287948901175001088; high = 541165879422 }
-set_of Reserved = record { low = 12394073643888410624; high = 1 }
+set_of User = record { low = 0xabff_fff2_0000_0000; high = 0x47ff_fffe_87ff_fffe }
+set_of Password = record { low = 0x23ff_7ff2_0000_0000; high = 0x47ff_fffe_87ff_fffe }
+set_of Parameter = record { low = 0x07ff_eff2_0000_0000; high = 0x47ff_fffe_afff_fffe }
+set_of Header = record { low = 0x87ff_efb2_0000_0000; high = 0x47ff_fffe_afff_fffe }
+set_of Label = record { low = 0x03ff_2000_0000_0000; high = 0x07ff_fffe_07ff_fffe }
+set_of Name = record { low = 0x03ff_6000_0000_0000; high = 0x07ff_fffe_07ff_fffe }
+set_of Alphanum = record { low = 0x03ff_0000_0000_0000; high = 0x07ff_fffe_07ff_fffe }
+set_of Letter = record { low = 0; high = 0x07ff_fffe_07ff_fffe }
+set_of Digit = record { low = 0x03ff_0000_0000_0000; high = 0 }
+set_of Hex = record { low = 0x03ff_0000_0000_0000; high = 0x0000_007e_0000_007e }
+set_of Reserved = record { low = 0xac00_9850_0000_0000; high = 1 }

@@ -1,143 +1,135 @@
 // Table addresses, and when a URI is one of them.
 ghost use Rattle.std.specs.Prelude.{◌≡◌, ◌&&◌, []};
+ghost use Rattle.std.specs.Bool.{then_some};
 ghost use Rattle.laws.specs.Choose.{pick};
 ghost use Rattle.laws.specs.Lists.{part, same};
 ghost use Rattle.text.specs.Names.{same_text};
 ghost use Rattle.uri.specs.Escapes.{normal};
-ghost use Rattle.uri.specs.Read.{has_user, parts_of, Uri};
-ghost use Rattle.uri.specs.Address.{is_table_address, same_address, same_written, is_open, reaches};
-ghost use Rattle.uri.specs.Parts.{reading_of};
+ghost use Rattle.uri.specs.Read.{ends_of, has_user, parts_of};
+ghost use Rattle.uri.specs.Address.{is_table_address, same_address, same_written, is_open};
 ghost use Rattle.uri.specs.Key.{key_of};
 
 use crate::classes::Class;
 use crate::pieces::Piece;
-use crate::reading::{Ends, Reading};
-use crate::{classes, escapes, reading};
+use crate::reading::{Ends, Split};
+use crate::{escapes, reading};
+use text::names::same_text;
+use text::part::part_of;
+use text::runs::{are_same, past, stands_at};
 
-// Whether a text that was read is a table address: 1 to 64 bytes, a URI, no parameters, no headers.
-#[tactic(auto, using(crate::proofs::ReadLaws::address_none, crate::proofs::ReadLaws::address_long, crate::proofs::ReadLaws::address_unread, crate::proofs::ReadLaws::address_read))]
-fn is_tabled(a: &[u8], r: Reading) -> bool
-    requires { r ≡ reading_of a.now }
-    ensures { result ≡ is_table_address a.now }
+// The ends of a table address: 1 to 64 bytes, a URI, no parameters, no headers.
+#[tactic(auto, unfolding(crate::specs::Address::is_table_address, crate::specs::Address::is_bare, crate::specs::Parts::reading_of))]
+fn tabled(a: &[u8]) -> Option<Ends>
+    ensures { result ≡ then_some (is_table_address a.now) (ends_of a.now) }
 {
-    if a.len() < 1 {
-        return false;
+    if a.is_empty() || 64 < a.len() {
+        return None;
     }
-    if 64 < a.len() {
-        return false;
-    }
-    if !r.fits {
-        return false;
-    }
-    r.ends.port == a.len()
+    reading::read(a).filter(|e| e.port == a.len())
 }
 
 // Whether a text is a table address.
 pub fn is_table_address(a: &[u8]) -> bool
     ensures { result ≡ is_table_address a.now }
 {
-    is_tabled(a, reading::read(a))
+    tabled(a).is_some()
 }
 
-// A part of a userinfo; empty where there is none.
-fn in_userinfo(s: &[u8], e: Ends, a: usize, b: usize) -> &[u8]
-    ensures { result.now ≡ pick (has_user s.now e) (part s.now a b) [] }
-{
-    if !reading::has_user(s, e) {
-        return &s[0..0];
+impl<'a> Split<'a> {
+    // A part of a userinfo; empty where there is none.
+    fn in_userinfo(self, a: usize, b: usize) -> &'a [u8]
+        ensures { result.now ≡ pick (has_user self.entry.text.now self.entry.ends) (part self.entry.text.now a b) [] }
+    {
+        if !self.has_user() {
+            return &[];
+        }
+        part_of(self.text, a, b)
     }
-    text::part::part_of(s, a, b)
-}
 
-// Whether host and port are the same, the host in either case.
-#[tactic(auto, unfolding(crate::specs::Read::parts_of))]
-fn same_place(s: &[u8], e: Ends, t: &[u8], f: Ends) -> bool
-    ensures { result ≡ (same_text (parts_of s.now e).host (parts_of t.now f).host
-        && same (parts_of s.now e).port (parts_of t.now f).port) }
-{
-    let a = text::part::part_of(s, e.start, e.host);
-    let b = text::part::part_of(t, f.start, f.host);
-    if !text::names::same_text(a, b) {
-        return false;
+    // Whether host and port are the same, the host in either case.
+    #[tactic(auto, unfolding(crate::specs::Read::parts_of))]
+    fn same_place(self, other: Split) -> bool
+        ensures { result ≡ (same_text (parts_of self.entry.text.now self.entry.ends).host (parts_of other.entry.text.now other.entry.ends).host
+            && same (parts_of self.entry.text.now self.entry.ends).port (parts_of other.entry.text.now other.entry.ends).port) }
+    {
+        let (e, f) = (self.ends, other.ends);
+        same_text(
+            part_of(self.text, e.start, e.host),
+            part_of(other.text, f.start, f.host),
+        ) && are_same(
+            part_of(self.text, e.host, e.port),
+            part_of(other.text, f.host, f.port),
+        )
     }
-    text::runs::are_same(
-        text::part::part_of(s, e.host, e.port),
-        text::part::part_of(t, f.host, f.port),
-    )
-}
 
-// Whether user and password are the same, an escape being what it stands for.
-fn same_users(s: &[u8], e: Ends, t: &[u8], f: Ends) -> bool
-    ensures { result ≡ (same (normal (parts_of s.now e).user) (normal (parts_of t.now f).user)
-        && same (normal (parts_of s.now e).password) (normal (parts_of t.now f).password)) }
-{
-    let u = in_userinfo(s, e, e.scheme, e.user);
-    let v = in_userinfo(t, f, f.scheme, f.user);
-    if !escapes::same_normal(u, v) {
-        return false;
+    // Whether user and password are the same, an escape being what it stands for.
+    #[tactic(auto, unfolding(crate::specs::Read::parts_of))]
+    fn same_users(self, other: Split) -> bool
+        ensures { result ≡ (same (normal (parts_of self.entry.text.now self.entry.ends).user) (normal (parts_of other.entry.text.now other.entry.ends).user)
+            && same (normal (parts_of self.entry.text.now self.entry.ends).password) (normal (parts_of other.entry.text.now other.entry.ends).password)) }
+    {
+        let (e, f) = (self.ends, other.ends);
+        escapes::same_normal(
+            self.in_userinfo(e.scheme, e.user),
+            other.in_userinfo(f.scheme, f.user),
+        ) && escapes::same_normal(
+            self.in_userinfo(e.user, e.password),
+            other.in_userinfo(f.user, f.password),
+        )
     }
-    let w = in_userinfo(s, e, e.user, e.password);
-    let x = in_userinfo(t, f, f.user, f.password);
-    escapes::same_normal(w, x)
-}
 
-// Whether scheme, user, password, host and port are the same.
-fn same_written(s: &[u8], e: Ends, t: &[u8], f: Ends) -> bool
-    ensures { result ≡ same_written (parts_of s.now e) (parts_of t.now f) }
-{
-    if !text::names::same_text(
-        text::part::part_of(s, 0, e.scheme),
-        text::part::part_of(t, 0, f.scheme),
-    ) {
-        return false;
+    // Whether scheme, user, password, host and port are the same.
+    #[tactic(auto, unfolding(crate::specs::Read::parts_of, crate::specs::Address::same_written))]
+    fn same_written(self, other: Split) -> bool
+        ensures { result ≡ same_written (parts_of self.entry.text.now self.entry.ends) (parts_of other.entry.text.now other.entry.ends) }
+    {
+        same_text(
+            part_of(self.text, 0, self.ends.scheme),
+            part_of(other.text, 0, other.ends.scheme),
+        ) && self.same_users(other)
+            && self.same_place(other)
     }
-    if !same_users(s, e, t, f) {
-        return false;
-    }
-    same_place(s, e, t, f)
-}
 
-// Whether a URI has no headers, and its parameters may all stand alone.
-fn is_open(s: &[u8], e: Ends) -> bool
-    ensures { result ≡ is_open (parts_of s.now e) }
-{
-    let behind = e.parameters;
-    if text::runs::byte_at(s, behind) == 63 {
-        return false;
+    // Whether a URI has no headers, and its parameters may all stand alone.
+    #[tactic(auto, using(crate::proofs::AddressLaws::open_headers, crate::proofs::AddressLaws::open_each), unfolding(crate::specs::Read::parameters_of))]
+    fn is_open(self) -> bool
+        ensures { result ≡ is_open (parts_of self.entry.text.now self.entry.ends) }
+    {
+        let (s, e) = (self.text, self.ends);
+        !stands_at(s, e.parameters, b'?')
+            && reading::pieces_fit(s, e.port, b';', e.parameters, b';', Piece::Loose)
     }
-    reading::pieces_fit(s, e.port, 59, behind, 59, Piece::Loose)
 }
 
 // Whether a text is that table address.
+#[tactic(auto, using(crate::proofs::AddressLaws::same_not, crate::proofs::AddressLaws::same_unread))]
 pub fn is_same(s: &[u8], a: &[u8]) -> bool
     ensures { result ≡ same_address s.now a.now }
 {
-    let q = reading::read(a);
-    if !is_tabled(a, q) {
+    let Some(f) = tabled(a) else {
         return false;
-    }
-    let r = reading::read(s);
-    if !r.fits {
+    };
+    let Some(e) = reading::read(s) else {
         return false;
-    }
-    if !same_written(s, r.ends, a, q.ends) {
-        return false;
-    }
-    is_open(s, r.ends)
+    };
+    let uri = Split { text: s, ends: e };
+    let address = Split { text: a, ends: f };
+    uri.same_written(address) && uri.is_open()
 }
 
 // The number of a URI's user.
+#[tactic(auto, using(crate::proofs::AddressLaws::key_none), unfolding(crate::specs::Key::key_of, crate::specs::Read::parts_of, crate::specs::Read::has_user, crate::specs::Read::ends_of, crate::specs::Read::user_end, crate::specs::Read::password_end, crate::specs::Key::weighed, crate::specs::Escapes::normal))]
 pub fn key_of(s: &[u8]) -> u32
     ensures { result ≡ key_of s.now }
 {
-    if s.len() == 0 {
+    if s.is_empty() {
         return 0;
     }
     let scheme = reading::scheme_end(s);
-    let user = classes::past_of(s, scheme, Class::User);
+    let user = past(s, scheme, Class::User);
     let password = reading::behind_colon(s, user, Class::Password);
-    if text::runs::byte_at(s, password) != 64 {
+    if !stands_at(s, password, b'@') {
         return 0;
     }
-    escapes::weight(text::part::part_of(s, scheme, user))
+    escapes::weight(part_of(s, scheme, user))
 }

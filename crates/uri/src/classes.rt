@@ -1,8 +1,9 @@
-// The classes of bytes that URIs are made of, and runs of them. Each class is a set of numbers below 128, held in two numbers of 64 bits.
+// The classes of bytes that URIs are made of. Each class is a set of numbers below 128, held in two numbers of 64 bits.
 ghost use Rattle.std.specs.Prelude.{◌≡◌};
-ghost use Rattle.text.specs.Runs.{past};
-ghost use Rattle.uri.specs.Classes.{is_of, is_other};
+ghost use Rattle.uri.specs.Classes.{is_of};
 ghost use Rattle.uri.specs.Sets.{is_in, set_of};
+
+use text::class::ByteSet;
 
 #[derive(Clone, Copy)]
 pub enum Class {
@@ -27,58 +28,60 @@ pub struct Set {
 }
 
 // The bytes of a class.
+#[tactic(auto, unfolding(crate::specs::Sets::set_of))]
 fn set_of(class: Class) -> Set
     ensures { result ≡ set_of class }
 {
     match class {
         Class::User => Set {
-            low: 12393906114394062848,
-            high: 5188146764422578174,
+            low: 0xabff_fff2_0000_0000,
+            high: 0x47ff_fffe_87ff_fffe,
         },
         Class::Password => Set {
-            low: 2593932587747508224,
-            high: 5188146764422578174,
+            low: 0x23ff_7ff2_0000_0000,
+            high: 0x47ff_fffe_87ff_fffe,
         },
         Class::Parameter => Set {
-            low: 576443099987836928,
-            high: 5188146765093666814,
+            low: 0x07ff_eff2_0000_0000,
+            high: 0x47ff_fffe_afff_fffe,
         },
         Class::Header => Set {
-            low: 9799814861964705792,
-            high: 5188146765093666814,
+            low: 0x87ff_efb2_0000_0000,
+            high: 0x47ff_fffe_afff_fffe,
         },
         Class::Label => Set {
-            low: 287984085547089920,
-            high: 576460743847706622,
+            low: 0x03ff_2000_0000_0000,
+            high: 0x07ff_fffe_07ff_fffe,
         },
         Class::Name => Set {
-            low: 288054454291267584,
-            high: 576460743847706622,
+            low: 0x03ff_6000_0000_0000,
+            high: 0x07ff_fffe_07ff_fffe,
         },
         Class::Alphanum => Set {
-            low: 287948901175001088,
-            high: 576460743847706622,
+            low: 0x03ff_0000_0000_0000,
+            high: 0x07ff_fffe_07ff_fffe,
         },
         Class::Letter => Set {
             low: 0,
-            high: 576460743847706622,
+            high: 0x07ff_fffe_07ff_fffe,
         },
         Class::Digit => Set {
-            low: 287948901175001088,
+            low: 0x03ff_0000_0000_0000,
             high: 0,
         },
         Class::Hex => Set {
-            low: 287948901175001088,
-            high: 541165879422,
+            low: 0x03ff_0000_0000_0000,
+            high: 0x0000_007e_0000_007e,
         },
         Class::Reserved => Set {
-            low: 12394073643888410624,
+            low: 0xac00_9850_0000_0000,
             high: 1,
         },
     }
 }
 
 // Whether a byte is in a set.
+#[tactic(auto, unfolding(crate::specs::Sets::is_in))]
 fn is_in(s: Set, b: u8) -> bool
     ensures { result ≡ is_in s b }
 {
@@ -91,38 +94,10 @@ fn is_in(s: Set, b: u8) -> bool
     false
 }
 
-// Whether a byte is of a class.
-pub fn is_of(class: Class, b: u8) -> bool
-    ensures { result ≡ is_of class b }
-{
-    let s = set_of(class);
-    is_in(s, b)
-}
+impl ByteSet for Class {
+    ghost holds = { is_of };
 
-// Where the run of bytes of a class ends that begins at a position.
-pub fn past_of(s: &[u8], at: usize, class: Class) -> usize
-    ensures { result ≡ past (is_of class) s.now at }
-{
-    let mut i = at;
-    while i < s.len() {
-        if !is_of(class, s[i]) {
-            return i;
-        }
-        i += 1;
+    fn has(self, b: u8) -> bool {
+        is_in(set_of(self), b)
     }
-    i
-}
-
-// Where a byte stands next, from a position on; the end of the text where it does not.
-pub fn past_other(s: &[u8], at: usize, c: u8) -> usize
-    ensures { result ≡ past (is_other c) s.now at }
-{
-    let mut i = at;
-    while i < s.len() {
-        if s[i] == c {
-            return i;
-        }
-        i += 1;
-    }
-    i
 }

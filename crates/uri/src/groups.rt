@@ -1,14 +1,14 @@
 // IPv4 and IPv6 addresses: numbers between dots, and groups between colons.
-ghost use Rattle.std.specs.Prelude.{◌≡◌, ◌&&◌, ◌||◌, leb, length};
+ghost use Rattle.std.specs.Prelude.{◌≡◌, ◌&&◌, leb, length};
 ghost use Rattle.laws.specs.Lists.{every};
 ghost use Rattle.uri.specs.Classes.{is_of};
 ghost use Rattle.uri.specs.Host.{is_octet, is_iPv4, is_hex4, is_iPv6, is_reference};
 ghost use Rattle.uri.specs.Groups.{told, stepped, may_end};
 
-use crate::classes;
 use crate::classes::Class;
+use text::class::ByteSet;
 
-// Where an IPv6 address stands between two groups.
+// Where an IPv6 address stands between two groups. `Wrong` is a place among them: no group leads out of it.
 #[derive(Clone, Copy)]
 pub enum Place {
     Begin,
@@ -24,16 +24,11 @@ pub enum Place {
 fn is_run(p: &[u8], most: usize, class: Class) -> bool
     ensures { result ≡ (leb 1 (length p.now) && (leb (length p.now) most && every (is_of class) p.now)) }
 {
-    if p.len() < 1 {
-        return false;
-    }
-    if most < p.len() {
-        return false;
-    }
-    classes::past_of(p, 0, class) == p.len()
+    !p.is_empty() && p.len() <= most && p.iter().all(|b| class.has(*b))
 }
 
 // Whether a text is one to three digits.
+#[tactic(auto, using(crate::proofs::OctetLaws::octet_is))]
 fn is_octet(p: &[u8]) -> bool
     ensures { result ≡ is_octet p.now }
 {
@@ -44,23 +39,18 @@ fn is_octet(p: &[u8]) -> bool
 pub fn is_ipv4(s: &[u8]) -> bool
     ensures { result ≡ is_iPv4 s.now }
 {
-    let mut i = 0;
     let mut left: u8 = 4;
-    while 0 < left {
-        let e = classes::past_other(s, i, 46);
-        if !is_octet(&s[i..e]) {
+    for p in s.split(|b| *b == b'.') {
+        if left == 0 || !is_octet(p) {
             return false;
         }
         left -= 1;
-        if e == s.len() {
-            return left == 0;
-        }
-        i = e + 1;
     }
-    false
+    left == 0
 }
 
 // Whether a text is one to four hex digits.
+#[tactic(auto, unfolding(crate::specs::Host::is_hex4))]
 fn is_hex4(p: &[u8]) -> bool
     ensures { result ≡ is_hex4 p.now }
 {
@@ -68,19 +58,21 @@ fn is_hex4(p: &[u8]) -> bool
 }
 
 // Behind an empty group the first, behind a hex4 the second, and otherwise it is wrong.
+#[tactic(auto, unfolding(laws::specs::Lists::empty))]
 fn tell(p: &[u8], a: Place, b: Place) -> Place
     ensures { result ≡ told p.now a b }
 {
-    if p.len() == 0 {
-        return a;
+    if p.is_empty() {
+        a
+    } else if is_hex4(p) {
+        b
+    } else {
+        Place::Wrong
     }
-    if is_hex4(p) {
-        return b;
-    }
-    Place::Wrong
 }
 
 // Where one group more leads.
+#[tactic(auto, unfolding(crate::specs::Groups::stepped))]
 fn step(at: Place, p: &[u8]) -> Place
     ensures { result ≡ stepped at p.now }
 {
@@ -90,70 +82,40 @@ fn step(at: Place, p: &[u8]) -> Place
         Place::Behind => tell(p, Place::Gap, Place::Behind),
         Place::Gap => tell(p, Place::Closed, Place::After),
         Place::After => tell(p, Place::Wrong, Place::After),
-        Place::Closed => Place::Wrong,
-        Place::Wrong => Place::Wrong,
+        Place::Closed | Place::Wrong => Place::Wrong,
     }
 }
 
 // Whether an address may end there.
+#[tactic(auto, unfolding(crate::specs::Groups::may_end))]
 fn may_end(at: Place) -> bool
     ensures { result ≡ may_end at }
 {
-    match at {
-        Place::Begin => false,
-        Place::Front => false,
-        Place::Behind => true,
-        Place::Gap => false,
-        Place::After => true,
-        Place::Closed => true,
-        Place::Wrong => false,
-    }
+    matches!(at, Place::Behind | Place::After | Place::Closed)
 }
 
-// Whether an address may end with this group: with a group that fits there, or with an IPv4 address behind a place where it may end.
-fn ends_with(at: Place, p: &[u8]) -> bool
-    ensures { result ≡ (may_end (stepped at p.now) || (is_iPv4 p.now && may_end at)) }
-{
-    if may_end(step(at, p)) {
-        return true;
-    }
-    if !is_ipv4(p) {
-        return false;
-    }
-    may_end(at)
-}
-
-// Whether a text is an IPv6 address: its groups, place by place, up to the last.
+// Whether a text is an IPv6 address: its groups lead to a place where it may end, or the last one is an IPv4 address behind such a place.
 pub fn is_ipv6(s: &[u8]) -> bool
     ensures { result ≡ is_iPv6 s.now }
 {
     let mut at = Place::Begin;
-    let mut i = 0;
-    while i <= s.len() {
-        let e = classes::past_other(s, i, 58);
-        let p = &s[i..e];
-        if e == s.len() {
-            return ends_with(at, p);
-        }
+    let mut before = at;
+    let mut last = s;
+    for p in s.split(|b| *b == b':') {
+        before = at;
+        last = p;
         at = step(at, p);
-        i = e + 1;
     }
-    false
+    may_end(at) || is_ipv4(last) && may_end(before)
 }
 
 // Whether a text is an IPv6 address in brackets.
+#[tactic(auto, using(crate::proofs::GroupLaws::reference_short, crate::proofs::GroupLaws::reference_other, crate::proofs::GroupLaws::reference_bare, crate::proofs::GroupLaws::reference_is), unfolding(laws::specs::Lists::part))]
 pub fn is_reference(s: &[u8]) -> bool
     ensures { result ≡ is_reference s.now }
 {
-    let n = s.len();
-    if n < 2 {
-        return false;
+    match s {
+        [b'[', inner @ .., b']'] => is_ipv6(inner),
+        _ => false,
     }
-    if s[0] != 91 {
-        return false;
-    }
-    if s[n - 1] != 93 {
-        return false;
-    }
-    is_ipv6(&s[1..n - 1])
 }

@@ -8,16 +8,18 @@ ghost use Rattle.uri.specs.Read.{behind_bracket};
 ghost use Rattle.uri.specs.Parts.{label_of, host_of};
 
 use crate::classes::Class;
-use crate::{classes, groups};
+use crate::groups;
+use text::class::{ByteSet, Other};
+use text::{part, runs};
 
-// Whether a text is a label, and a toplabel.
+// Whether a text is a label, and a toplabel: where a dot follows the first is asked, and otherwise the second.
 #[derive(Clone, Copy)]
 pub struct Label {
     pub fits: bool,
     pub top: bool,
 }
 
-// Where a host ends, and whether it is one.
+// Where a host ends, and whether it is one. Its end is used in any case: a name that is no hostname may be an IPv4 address.
 #[derive(Clone, Copy)]
 pub struct Host {
     pub end: usize,
@@ -25,24 +27,12 @@ pub struct Host {
 }
 
 // What a run of label bytes is.
+#[tactic(auto, using(crate::proofs::LabelLaws::run_begins, crate::proofs::LabelLaws::run_ends, crate::proofs::LabelLaws::no_label, crate::proofs::LabelLaws::label_told))]
 fn label_of(s: &[u8], i: usize, e: usize) -> Label
     requires { e ≡ past is_label_byte s.now i }
     ensures { result ≡ label_of (part s.now i e) }
 {
-    if e <= i {
-        return Label {
-            fits: false,
-            top: false,
-        };
-    }
-    let first = s[i];
-    if !classes::is_of(Class::Alphanum, first) {
-        return Label {
-            fits: false,
-            top: false,
-        };
-    }
-    if !classes::is_of(Class::Alphanum, s[e - 1]) {
+    if e <= i || !Class::Alphanum.has(s[i]) || !Class::Alphanum.has(s[e - 1]) {
         return Label {
             fits: false,
             top: false,
@@ -50,7 +40,7 @@ fn label_of(s: &[u8], i: usize, e: usize) -> Label
     }
     Label {
         fits: true,
-        top: classes::is_of(Class::Letter, first),
+        top: Class::Letter.has(s[i]),
     }
 }
 
@@ -60,10 +50,11 @@ fn hostname(s: &[u8], at: usize) -> Host
 {
     let mut i = at;
     let mut top = false;
+    // By position, from label to label: `split` would have to be told first where the name ends, which is one pass more.
     while i < s.len() {
-        let e = classes::past_of(s, i, Class::Label);
+        let e = runs::past(s, i, Class::Label);
         let l = label_of(s, i, e);
-        if text::runs::byte_at(s, e) != 46 {
+        if !runs::stands_at(s, e, b'.') {
             return Host {
                 end: e,
                 fits: if e == i { top } else { l.top },
@@ -71,7 +62,7 @@ fn hostname(s: &[u8], at: usize) -> Host
         }
         if !l.fits {
             return Host {
-                end: classes::past_of(s, e, Class::Name),
+                end: runs::past(s, e, Class::Name),
                 fits: false,
             };
         }
@@ -82,25 +73,27 @@ fn hostname(s: &[u8], at: usize) -> Host
 }
 
 // Behind the ] that stands next; the end of the text where none does.
+#[tactic(auto, using(crate::proofs::StandLaws::stood), unfolding(crate::specs::Read::behind_bracket, crate::specs::Classes::is_other))]
 fn behind_bracket(s: &[u8], at: usize) -> usize
     ensures { result ≡ behind_bracket s.now at }
 {
-    let e = classes::past_other(s, at, 93);
-    if text::runs::byte_at(s, e) == 93 {
+    let e = runs::past(s, at, Other(b']'));
+    if runs::stands_at(s, e, b']') {
         return e + 1;
     }
     e
 }
 
 // The host that begins at a position.
+#[tactic(auto, using(crate::proofs::HostLaws::host_bracket, crate::proofs::HostLaws::host_name, crate::proofs::HostLaws::host_numbers))]
 pub fn host_at(s: &[u8], at: usize) -> Host
     ensures { result ≡ host_of s.now at }
 {
-    if text::runs::byte_at(s, at) == 91 {
+    if runs::stands_at(s, at, b'[') {
         let e = behind_bracket(s, at);
         return Host {
             end: e,
-            fits: groups::is_reference(text::part::part_of(s, at, e)),
+            fits: groups::is_reference(part::part_of(s, at, e)),
         };
     }
     let h = hostname(s, at);
@@ -109,6 +102,6 @@ pub fn host_at(s: &[u8], at: usize) -> Host
     }
     Host {
         end: h.end,
-        fits: groups::is_ipv4(text::part::part_of(s, at, h.end)),
+        fits: groups::is_ipv4(part::part_of(s, at, h.end)),
     }
 }

@@ -5,57 +5,37 @@ ghost use Rattle.text.specs.Names.{lower};
 ghost use Rattle.uri.specs.Escapes.{folded};
 ghost use Rattle.uri.specs.Alike.{name_of, is_loose};
 
-use crate::escapes;
+use crate::escapes::Units;
 
 // A capital as its small letter, anything else as it is.
+#[tactic(auto, unfolding(text::specs::Names::lower))]
 fn small_unit(v: u16) -> u16
     ensures { result ≡ lower v }
 {
-    if 255 < v {
-        return v;
+    match u8::try_from(v) {
+        Ok(b) => u16::from(text::names::small(b)),
+        Err(_) => v,
     }
-    text::names::small(v as u8) as u16
 }
 
 // Whether a parameter has that name, in either case and with its escapes as what they stand for.
 fn is_named(p: &[u8], name: &[u8]) -> bool
     ensures { result ≡ same (name_of (folded p.now)) name.now }
 {
-    let mut i = 0;
-    let mut j = 0;
-    while i < p.len() {
-        let u = escapes::unit_at(p, i);
-        let v = small_unit(u.value);
-        if v == 61 {
-            return name.len() <= j;
-        }
-        if name.len() <= j {
-            return false;
-        }
-        if v != name[j] as u16 {
-            return false;
-        }
-        i = u.next;
-        j += 1;
-    }
-    name.len() <= j
+    Units { rest: p }
+        .map(small_unit)
+        .take_while(|v| *v != u16::from(b'='))
+        .eq(name.iter().map(|b| u16::from(*b)))
 }
 
 // Whether a parameter may stand in one URI alone.
+#[tactic(auto, unfolding(crate::specs::Alike::is_loose, crate::specs::Alike::telling, laws::specs::Lists::any))]
 pub fn is_loose(p: &[u8]) -> bool
     ensures { result ≡ is_loose (folded p.now) }
 {
-    if is_named(p, b"transport") {
-        return false;
-    }
-    if is_named(p, b"user") {
-        return false;
-    }
-    if is_named(p, b"ttl") {
-        return false;
-    }
-    if is_named(p, b"method") {
-        return false;
-    }
-    !is_named(p, b"maddr")
+    !is_named(p, b"transport")
+        && !is_named(p, b"user")
+        && !is_named(p, b"ttl")
+        && !is_named(p, b"method")
+        && !is_named(p, b"maddr")
 }

@@ -6,7 +6,8 @@ ghost use Rattle.uri.specs.Read.{is_parameter, is_header};
 ghost use Rattle.uri.specs.Parts.{is_piece};
 
 use crate::classes::Class;
-use crate::{classes, escapes, names};
+use crate::{escapes, names};
+use text::runs;
 
 // What is asked: whether it is a parameter, a header, or a parameter that may stand in one URI alone.
 #[derive(Clone, Copy)]
@@ -17,47 +18,34 @@ pub enum Piece {
 }
 
 // Whether a text is a name of one or more bytes, and perhaps = and a value of one or more.
+#[tactic(auto, using(crate::proofs::StandLaws::stood), unfolding(crate::specs::Read::is_parameter))]
 fn is_parameter(p: &[u8]) -> bool
     ensures { result ≡ is_parameter p.now }
 {
     if !escapes::escapes_whole(p) {
         return false;
     }
-    let n = classes::past_of(p, 0, Class::Parameter);
+    let n = runs::past(p, 0, Class::Parameter);
     if n == 0 {
         return false;
     }
-    if n == p.len() {
-        return true;
+    if !runs::stands_at(p, n, b'=') {
+        return n == p.len();
     }
-    if p[n] != 61 {
-        return false;
-    }
-    let m = classes::past_of(p, n + 1, Class::Parameter);
-    if m <= n + 1 {
-        return false;
-    }
-    m == p.len()
+    let m = runs::past(p, n + 1, Class::Parameter);
+    n + 1 < m && m == p.len()
 }
 
 // Whether a text is a name of one or more bytes, = and a value.
+#[tactic(auto, using(crate::proofs::StandLaws::stood), unfolding(crate::specs::Read::is_header))]
 fn is_header(h: &[u8]) -> bool
     ensures { result ≡ is_header h.now }
 {
     if !escapes::escapes_whole(h) {
         return false;
     }
-    let n = classes::past_of(h, 0, Class::Header);
-    if n == 0 {
-        return false;
-    }
-    if n == h.len() {
-        return false;
-    }
-    if h[n] != 61 {
-        return false;
-    }
-    classes::past_of(h, n + 1, Class::Header) == h.len()
+    let n = runs::past(h, 0, Class::Header);
+    n != 0 && runs::stands_at(h, n, b'=') && runs::past(h, n + 1, Class::Header) == h.len()
 }
 
 fn is_piece(kind: Piece, p: &[u8]) -> bool
@@ -74,16 +62,5 @@ fn is_piece(kind: Piece, p: &[u8]) -> bool
 pub fn every_piece(s: &[u8], c: u8, kind: Piece) -> bool
     ensures { result ≡ every (is_piece kind) (pieces c s.now) }
 {
-    let mut i = 0;
-    while i <= s.len() {
-        let e = classes::past_other(s, i, c);
-        if !is_piece(kind, &s[i..e]) {
-            return false;
-        }
-        if e == s.len() {
-            return true;
-        }
-        i = e + 1;
-    }
-    true
+    s.split(|b| *b == c).all(|p| is_piece(kind, p))
 }

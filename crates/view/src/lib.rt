@@ -1,7 +1,6 @@
-// What is shown of records and their parts of the store, put into a page: a position in, the position past it out.
+// What is shown of records and their parts of the store.
 #![tactic(auto)]
 
 pub mod records;
 pub mod slots;
 pub mod sum;
-pub mod words;

@@ -4,10 +4,10 @@ use Rattle.desk.proofs.ToldLaws.{reads_within, told_reads, told_other}
 use Rattle.desk.proofs.readout.frame_told.Goals as goal
 
 pub frame_state-requires : goal.frame_state-requires
-frame_state-requires c = reads_within _ (wanted_reads _ c.read_wanted.ensures c.in-State.is)
+frame_state-requires c = reads_within _ (wanted_reads _ c.read_wanted.ensures c.in-Some.is)
 
-pub returns-in-State : goal.returns-in-State
-returns-in-State c = told_reads _ (wanted_reads _ c.read_wanted.ensures c.in-State.is) _ _ c.frame_state.ensures
+pub returns-in-Some : goal.returns-in-Some
+returns-in-Some c = told_reads _ (wanted_reads _ c.read_wanted.ensures c.in-Some.is) _ _ c.frame_state.ensures
 
-pub returns-in-Other : goal.returns-in-Other
-returns-in-Other c = told_other _ _ _ (wanted_none _ c.read_wanted.ensures c.in-Other.is)
+pub returns-in-None : goal.returns-in-None
+returns-in-None c = told_other _ _ _ (wanted_none _ c.read_wanted.ensures c.in-None.is)

@@ -4,4 +4,4 @@ use Rattle.desk.proofs.turn.line_turn.Goals as goal
 
 pub returns : goal.returns
 returns c =
-    turned _ _ _ _ _ _ _ _ _ _ _ _ _ c.line_step-s.ensures c.requires.1 c.line_told-told.ensures c.put_line-end.ensures
+    turned _ _ _ _ _ _ _ _ _ _ _ _ c.line_step-s.ensures c.requires.1 c.line_told-told.ensures c.put_line-end.ensures

@@ -7,7 +7,7 @@ use Rattle.frames.proofs.HexLaws.{digit_value, digits_most, pair_more, pairs_all
 use Rattle.frames.proofs.hex.put_bytes.Goals as goal
 
 pub loop-i-init : goal.loop-i-init
-loop-i-init c = (search rules, search rules, wrote_none _ 0 (search rules))
+loop-i-init c = wrote_none _ 0 (search rules)
 
 pub pair-requires : goal.pair-requires
 pair-requires c =
@@ -23,7 +23,7 @@ loop-i-preserved c =
     let l = c.loop-i in
     let t = c.args.line.now in
     let fits = digits_most t c.requires.0 in
-    (search rules, search rules, pair_more t l.i _ (search rules) (omega arith) c.pair.ensures l.invariant.2)
+    pair_more t l.i _ (search rules) (omega arith) c.pair.ensures l.invariant
 
 pub returns : goal.returns
-returns c = pairs_all _ _ c.loop-i-test.false c.loop-i.invariant.2
+returns c = pairs_all _ (omega arith) c.loop-i.invariant

@@ -3,13 +3,13 @@ use borrow.Author.Rules.{rules}
 use Rattle.success.proofs.SuccessLaws.{ended_none, ended_one}
 use Rattle.success.proofs.after.ended.Goals as goal
 
-pub returns-then-k-ge8 : goal.returns-then-k-ge8
-returns-then-k-ge8 c =
+pub returns-then-x-ge8 : goal.returns-then-x-ge8
+returns-then-x-ge8 c =
     let p = c.requires in
-    ended_none _ _ _ _ (search rules) p.2 p.3 _ c.with_slots.ensures p.1 c.if-k-ge8.true
+    ended_none _ _ _ _ (search rules) p.2 p.3 _ c.with_slots.ensures p.1 c.if-x-ge8.true
 
 pub returns : goal.returns
 returns c =
     let p = c.requires in
-    ended_one _ _ _ _ (search rules) p.2 p.3 _ _ _ c.with_slots-2.ensures p.1 c.if-k-ge8.false c.without_place.ensures
+    ended_one _ _ _ _ (search rules) p.2 p.3 _ _ _ (rw c.from.ensures at c.with_slots-2.ensures) p.1 c.if-x-ge8.false c.without_place.ensures
     c.zero_slot.ensures

@@ -1,13 +1,9 @@
--- The slot that is found is the one that the definition writes.
+-- A slot is found exactly where the one that the definition writes is below 8.
 use mathlib.Core.Path.{◌∙◌, ap}
-use Prim.Native.Nat.{ℕ}
-use lib.Dec.{ltb}
 use borrow.Author.Rules.{rules}
-use Rattle.success.proofs.StoreLaws.{freed_places_length}
-use Rattle.success.proofs.SuccessLaws.{slot_found}
+use Rattle.std.specs.Prelude.{is_some}
+use Rattle.success.proofs.SuccessLaws.{slot_found, told_slot}
 use Rattle.success.proofs.after.has_room.Goals as goal
 
 pub returns : goal.returns
-returns c =
-    let eight = freed_places_length c.args.x c.args.r ∙ search rules in
-    ap (λ (k : ℕ). ltb k 8) (slot_found _ _ _ _ eight c.live_map.ensures c.slot_to_write.ensures)
+returns c = c.is_some.ensures ∙ ap is_some (slot_found _ _ _ (search rules) c.live_map.ensures c.slot_to_write.ensures) ∙ told_slot _

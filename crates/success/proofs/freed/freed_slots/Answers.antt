@@ -1,6 +1,5 @@
 -- After i turns the first i slots are as they stand in the end, and what the rest becomes completes them.
-use borrow.Author.Rules.{rules}
-use mathlib.Core.Path.{refl, ◌∙◌}
+use mathlib.Core.Path.{◌∙◌}
 use mathlib.Core.List.{append-nil}
 use Prim.Native.Nat.{◌≤◌}
 use native.Mathlib.Omega.{arith}
@@ -11,17 +10,14 @@ use Rattle.success.specs.After.{freed_at}
 use Rattle.success.proofs.FreedLaws.{slots_turn}
 use Rattle.success.proofs.freed.freed_slots.Goals as goal
 
-pub loop-i-init : goal.loop-i-init
-loop-i-init c = (search rules, search rules, refl)
-
-pub loop-i-preserved : goal.loop-i-preserved
-loop-i-preserved c =
-    let l = c.loop-i in
-    (omega arith, simp length-set l.invariant.1, slots_turn _ _ l.out l.i _ _ (omega arith) c.freed_slot.ensures ∙ l.invariant.2)
+pub loop-s-preserved : goal.loop-s-preserved
+loop-s-preserved c =
+    let l = c.loop-s in
+    (simp length-set l.invariant.0, slots_turn _ _ l.s-items l.s-index _ _ (omega arith) c.freed_slot.ensures ∙ l.invariant.1)
 
 pub returns : goal.returns
 unfolding freed_at places places_in slots_of
 returns c =
-    let l = c.loop-i in
-    let h : length l.out ≤ l.i = omega arith in
-    rw (take_all l.i l.out h, drop_of_length-le l.out h, append-nil) at l.invariant.2
+    let l = c.loop-s in
+    let h : length l.s-items ≤ l.s-index = omega arith in
+    rw (take_all l.s-index l.s-items h, drop_of_length-le l.s-items h, append-nil) at l.invariant.1

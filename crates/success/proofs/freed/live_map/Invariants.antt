@@ -1,13 +1,9 @@
 -- Walking from the last slot to the first, the map of the places passed is one bit more and twice what it was.
 use mathlib.Core.Path.{◌≡◌}
-use Prim.Native.Nat.{◌≤◌}
-use lib.ListN.{length, drop}
+use lib.ListN.{drop}
 use Rattle.record.specs.Places.{map_of}
 use Rattle.success.proofs.FreedLaws.{freed_of}
 use Rattle.success.proofs.freed.live_map.Given as goal
 
 abbrev pub invariant-loop-i : goal.invariant-loop-i
-invariant-loop-i l = (l.i ≤ 8) × (length l.slots ≡ 8) × (l.out ≡ map_of (drop l.i (freed_of l.clock l.map l.slots)))
-
-abbrev pub decreases-loop-i : goal.decreases-loop-i
-decreases-loop-i l = l.i
+invariant-loop-i l = l.out ≡ map_of (drop l.i (freed_of l.clock l.r.map l.r.slots))

@@ -8,17 +8,15 @@ use Rattle.success.proofs.ClearLaws.{clear_turn, clear_end}
 use Rattle.success.proofs.store.clear_part.Goals as goal
 
 pub loop-k-init : goal.loop-k-init
-loop-k-init c = (search rules, search rules, search rules, rw add-zero)
+loop-k-init c = (search rules, rw add-zero)
 
 pub loop-k-preserved : goal.loop-k-preserved
 loop-k-preserved c =
     let l = c.loop-k in
     let a = c.args in (
-      omega arith,
-      l.invariant.1,
       search rules,
       rw c.zero_from.ensures
-          (clear_turn l.store a.i l.m l.k a.slots _ _ l.invariant.1 (omega arith) (omega arith) c.kept-n.ensures.0 ∙ l.invariant.3),
+          (clear_turn l.store a.i l.m l.k a.slots _ _ (search rules) (omega arith) (omega arith) c.kept-n.ensures.0 ∙ l.invariant.1),
     )
 
 pub returns : goal.returns
@@ -26,4 +24,4 @@ unfolding with_part part_of part_at
 returns c =
     let l = c.loop-k in
     let a = c.args in
-    sym (clear_end l.store a.i l.m l.k a.slots l.invariant.1 (omega arith) (omega arith)) ∙ l.invariant.3
+    sym (clear_end l.store a.i l.m l.k a.slots (search rules) (omega arith) (omega arith)) ∙ l.invariant.1

@@ -1,13 +1,10 @@
--- The number of the text is that of the units behind, behind the number of those that were passed.
+-- The number of the text is that of the units that are left, behind the number of those that came.
 use mathlib.Core.Path.{◌≡◌}
-use Prim.Native.Nat.{◌-◌, ◌<◌}
-use lib.ListN.{length, drop}
+use Prim.Native.Nat.{◌<◌}
 use Rattle.uri.specs.Escapes.{normal}
+use Rattle.uri.specs.Units.{units_left}
 use Rattle.uri.specs.Key.{weighed}
 use Rattle.uri.proofs.escapes.weight.Given as goal
 
-abbrev pub invariant-loop-i : goal.invariant-loop-i
-invariant-loop-i l = (l.k < 65536) × (weighed 0 (normal l.s) ≡ weighed l.k (normal (drop l.i l.s)))
-
-abbrev pub decreases-loop-i : goal.decreases-loop-i
-decreases-loop-i l = length l.s - l.i
+abbrev pub invariant-loop-u : goal.invariant-loop-u
+invariant-loop-u l = record { low : l.k < 65536; same : weighed 0 (normal l.s) ≡ weighed l.k (units_left l.u-iterator) }

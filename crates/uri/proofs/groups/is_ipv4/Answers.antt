@@ -1,55 +1,29 @@
--- What is left to read says what the whole text says: so many numbers are left, with dots between them.
-use mathlib.Core.Path.{◌≡◌, refl, sym, ◌∙◌}
-use native.Mathlib.Omega.{arith}
-use Rattle.laws.specs.Lists.{part}
-use Rattle.laws.proofs.Tests.{turned_fails, turned_holds}
+-- What is left to read says what the whole text says: so many numbers are left.
+use Rattle.std.proofs.Common.{sym, ◌∙◌, refl, rules, tests}
 use Rattle.uri.specs.Host.{is_iPv4}
-use Rattle.uri.proofs.StepLaws.{piece_from, piece_within}
-use Rattle.uri.proofs.OctetLaws.{octets_none, octets_off, octets_end, octets_on}
+use Rattle.uri.proofs.PieceLaws.{yields_pieces, left_turn, left_end}
+use Rattle.uri.proofs.OctetLaws.{octets_none, octets_off, octets_on, octets_end}
+use Rattle.uri.proofs.groups.is_ipv4.Goals.{then-left-eq0-via-then-left-eq0, then-left-eq0-via-else-left-eq0+then-not-is_octet}
 use Rattle.uri.proofs.groups.is_ipv4.Goals as goal
 
-pub loop-left-init : goal.loop-left-init
+pub loop-p-init : goal.loop-p-init
 unfolding is_iPv4
-loop-left-init c = (omega arith, refl)
+loop-p-init c = refl
 
-pub slice_bounds-is_octet-count : goal.slice_bounds-is_octet-count
-slice_bounds-is_octet-count c = piece_from 46 _ _ _ c.loop-left.invariant.0 c.past_other-e.ensures
+pub returns-then-left-eq0 : goal.returns-then-left-eq0
+returns-then-left-eq0 c =
+    let t = left_turn (yields_pieces _ 46 c.args.s.now (cc) (cc) (cc) (λ x b q k. search (rules, tests))) c.loop-p.yielded _ c.loop-p.yielded_by _ _ c.in-Some.p c.in-Some.is c.next.ensures.steps in
+    sym (c.loop-p.invariant ∙ rw t (elim c.then-left-eq0.branch [
+      | then-left-eq0-via-then-left-eq0 w ↦ octets_none _ _ _ w.if-left-eq0.true
+      | then-left-eq0-via-else-left-eq0+then-not-is_octet w ↦ octets_off _ _ _ (sym w.is_octet.ensures ∙ w.if-not-is_octet.true)
+    ]))
 
-pub slice_bounds-is_octet-start : goal.slice_bounds-is_octet-start
-slice_bounds-is_octet-start c = piece_from 46 _ _ _ c.loop-left.invariant.0 c.past_other-e.ensures
-
-pub slice_bounds-is_octet-end : goal.slice_bounds-is_octet-end
-slice_bounds-is_octet-end c = piece_within 46 _ _ _ c.loop-left.invariant.0 c.past_other-e.ensures
-
-pub returns-then-not-is_octet : goal.returns-then-not-is_octet
-unfolding part
-returns-then-not-is_octet c =
-    let h = c.loop-left.invariant in
-    sym (h.1 ∙ octets_off _ _ _ _ h.0 c.past_other-e.ensures (turned_fails c.is_octet.ensures c.if-not-is_octet.true-raw))
-
-pub returns-then-e-s : goal.returns-then-e-s
-unfolding part
-returns-then-e-s c =
-    let h = c.loop-left.invariant in
-    sym
-    (h.1
-    ∙ octets_end _ _ _ _ h.0 c.past_other-e.ensures c.loop-left-test.true
-    (turned_holds c.is_octet.ensures c.if-not-is_octet.false-raw) c.if-e-s.true)
-
-pub overflow_add-i : goal.overflow_add-i
-overflow_add-i c = omega (arith, piece_within 46 _ _ _ c.loop-left.invariant.0 c.past_other-e.ensures)
-
-pub loop-left-preserved : goal.loop-left-preserved
-unfolding part
-loop-left-preserved c =
-    let h = c.loop-left.invariant in (
-      omega (arith, piece_within 46 _ _ _ h.0 c.past_other-e.ensures),
-      h.1
-          ∙ octets_on _ _ _ _ h.0 c.past_other-e.ensures c.loop-left-test.true
-          (turned_holds c.is_octet.ensures c.if-not-is_octet.false-raw) c.if-e-s.false,
-    )
+pub loop-p-preserved : goal.loop-p-preserved
+loop-p-preserved c =
+    let t = left_turn (yields_pieces _ 46 c.args.s.now (cc) (cc) (cc) (λ x b q k. search (rules, tests))) c.loop-p.yielded _ c.loop-p.yielded_by _ _ c.in-Some.p c.in-Some.is c.next.ensures.steps in
+    c.loop-p.invariant ∙ rw t (octets_on _ _ _ c.if-left-eq0.false (sym c.is_octet.ensures ∙ c.if-not-is_octet.false))
 
 pub returns : goal.returns
 returns c =
-    let none : c.loop-left.left ≡ 0 = omega arith in
-    sym (c.loop-left.invariant.1 ∙ rw none (octets_none 46 _))
+    let t = left_end (yields_pieces _ 46 c.args.s.now (cc) (cc) (cc) (λ x b q k. search (rules, tests))) c.loop-p.yielded _ c.loop-p.yielded_by _ _ c.in-None.is c.next.ensures.steps in
+    sym (c.loop-p.invariant ∙ rw t (octets_end _))

@@ -1,46 +1,30 @@
 -- What is left to read, from the place that was reached, says what the whole text says.
-use mathlib.Core.Path.{refl, sym, ◌∙◌}
-use native.Mathlib.Omega.{arith}
-use Rattle.laws.specs.Lists.{part}
+use Rattle.std.proofs.Common.{sym, ◌∙◌, rules, tests}
 use Rattle.uri.specs.Host.{is_iPv6}
-use Rattle.uri.proofs.StepLaws.{piece_from, piece_within}
-use Rattle.uri.proofs.GroupLaws.{groups_end, groups_on}
+use Rattle.uri.proofs.PieceLaws.{yields_pieces, left_turn, left_end}
+use Rattle.uri.proofs.GroupLaws.{groups_begin, groups_step}
 use Rattle.uri.proofs.groups.is_ipv6.Goals as goal
 
-pub loop-i-init : goal.loop-i-init
+pub loop-p-init : goal.loop-p-init
 unfolding is_iPv6
-loop-i-init c = (omega arith, refl)
+loop-p-init c = groups_begin 58 _ _ _ _
 
-pub slice_bounds-p-count : goal.slice_bounds-p-count
-slice_bounds-p-count c = piece_from 58 _ _ _ c.loop-i.invariant.0 c.past_other-e.ensures
+pub loop-p-preserved : goal.loop-p-preserved
+loop-p-preserved c =
+    let t = left_turn (yields_pieces _ 58 c.args.s.now (cc) (cc) (cc) (λ x b q k. search (rules, tests))) c.loop-p.yielded _ c.loop-p.yielded_by _ _ c.in-Some.p c.in-Some.is c.next.ensures.steps in
+    c.loop-p.invariant ∙ rw (t, c.step-at.ensures) (groups_step _ c.loop-p.before c.loop-p.last.now _ _)
 
-pub slice_bounds-p-start : goal.slice_bounds-p-start
-slice_bounds-p-start c = piece_from 58 _ _ _ c.loop-i.invariant.0 c.past_other-e.ensures
+pub returns-then-may_end : goal.returns-then-may_end
+returns-then-may_end c =
+    let t = left_end (yields_pieces _ 58 c.args.s.now (cc) (cc) (cc) (λ x b q k. search (rules, tests))) c.loop-p.yielded _ c.loop-p.yielded_by _ _ c.in-None.is c.next.ensures.steps in
+    sym (c.loop-p.invariant ∙ rw (t, ← c.may_end.ensures, c.if-may_end.true))
 
-pub slice_bounds-p-end : goal.slice_bounds-p-end
-slice_bounds-p-end c = piece_within 58 _ _ _ c.loop-i.invariant.0 c.past_other-e.ensures
+pub returns-then-is_ipv4 : goal.returns-then-is_ipv4
+returns-then-is_ipv4 c =
+    let t = left_end (yields_pieces _ 58 c.args.s.now (cc) (cc) (cc) (λ x b q k. search (rules, tests))) c.loop-p.yielded _ c.loop-p.yielded_by _ _ c.in-None.is c.next.ensures.steps in
+    sym (c.loop-p.invariant ∙ rw (t, ← c.may_end.ensures, c.if-may_end.false, ← c.is_ipv4.ensures, c.if-is_ipv4.true, ← c.may_end-then-is_ipv4.ensures))
 
-pub returns-then-e-s : goal.returns-then-e-s
-unfolding part
-returns-then-e-s c =
-    let h = c.loop-i.invariant in
-    c.ends_with.ensures ∙ sym (h.1 ∙ groups_end _ _ _ _ h.0 c.past_other-e.ensures c.if-e-s.true)
-
-pub overflow_add-i : goal.overflow_add-i
-overflow_add-i c = omega (arith, piece_within 58 _ _ _ c.loop-i.invariant.0 c.past_other-e.ensures)
-
-pub loop-i-smaller : goal.loop-i-smaller
-loop-i-smaller c =
-    let h = c.loop-i.invariant.0 in
-    omega (arith, piece_from 58 _ _ _ h c.past_other-e.ensures, piece_within 58 _ _ _ h c.past_other-e.ensures)
-
-pub loop-i-preserved : goal.loop-i-preserved
-unfolding part
-loop-i-preserved c =
-    let h = c.loop-i.invariant in (
-      omega (arith, piece_within 58 _ _ _ h.0 c.past_other-e.ensures),
-      h.1 ∙ rw c.step-at.ensures (groups_on _ _ _ _ h.0 c.past_other-e.ensures c.if-e-s.false),
-    )
-
-pub returns : goal.returns
-returns c = absurd (omega arith)
+pub returns-else-is_ipv4 : goal.returns-else-is_ipv4
+returns-else-is_ipv4 c =
+    let t = left_end (yields_pieces _ 58 c.args.s.now (cc) (cc) (cc) (λ x b q k. search (rules, tests))) c.loop-p.yielded _ c.loop-p.yielded_by _ _ c.in-None.is c.next.ensures.steps in
+    sym (c.loop-p.invariant ∙ rw (t, ← c.may_end.ensures, c.if-may_end.false, ← c.is_ipv4.ensures, c.if-is_ipv4.false))

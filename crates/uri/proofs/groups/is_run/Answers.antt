@@ -1,14 +1,16 @@
--- A text that is too short or too long fails, and another holds exactly if the run of the class that it begins with reaches its end.
-use borrow.Author.Tests.{le-leb, lt-leb}
-use Rattle.text.proofs.RunLaws.{past_first, run_whole}
+-- Each byte of a text of fitting length is asked.
+use Rattle.std.proofs.Common.{◌≤◌, length, ◌∙◌, rules, tests}
+use borrow.Author.Tests.{le-leb}
+use Rattle.std.proofs.lemmas.Iterator.{YieldsList-from_slice}
+use Rattle.std.proofs.lemmas.Iterator.Search.{all_from_yields_List}
+use Rattle.uri.specs.Classes.{is_of}
+use Rattle.uri.proofs.EveryLaws.{every_all}
 use Rattle.uri.proofs.groups.is_run.Goals as goal
 
-pub returns-then-p-lt1 : goal.returns-then-p-lt1
-returns-then-p-lt1 c = rw (lt-leb 1 _ c.if-p-lt1.true)
-
-pub returns-then-most-p : goal.returns-then-most-p
-returns-then-most-p c = rw (le-leb 1 _ c.if-p-lt1.false, lt-leb _ _ c.if-most-p.true)
-
-pub returns : goal.returns
-returns c =
-    rw (le-leb 1 _ c.if-p-lt1.false, le-leb _ _ c.if-most-p.false, c.past_of.ensures, past_first) (run_whole _ _)
+pub returns-then-p-most : goal.returns-then-p-most
+returns-then-p-most c =
+    let some : 1 ≤ length c.args.p.now = search rules in
+    let few : length c.args.p.now ≤ c.args.most = search rules in
+    rw (le-leb _ _ some, le-leb _ _ few)
+    (all_from_yields_List (is_of c.args.class) _ _ _ c.all.ensures.ran (YieldsList-from_slice c.args.p.now cc) (λ x b q k. search (rules, tests))
+    ∙ every_all _ _)

@@ -1,7 +1,7 @@
 -- What is left of the name says what the whole name says, and where its bytes end does not change.
 use mathlib.Core.Path.{refl, sym, ◌∙◌, ap}
 use native.Mathlib.Omega.{arith}
-use Rattle.laws.proofs.Tests.{turned_fails, turned_holds}
+use borrow.Author.Tests.{eqb-true, eqb-false}
 use Rattle.text.proofs.RunLaws.{past_from, past_end}
 use Rattle.uri.specs.Classes.{is_label_byte}
 use Rattle.uri.specs.Parts.{label_of}
@@ -11,57 +11,51 @@ use Rattle.uri.proofs.HostLaws.{name_read}
 use Rattle.uri.proofs.host.hostname.Goals as goal
 
 pub loop-i-init : goal.loop-i-init
-loop-i-init c = (refl, name_begin _)
-
-pub label_of-l-requires : goal.label_of-l-requires
-label_of-l-requires c = c.past_of-e.ensures
+loop-i-init c = record { end = refl; name = name_begin _ }
 
 pub returns-then-e-i : goal.returns-then-e-i
 returns-then-e-i c =
     let h = c.loop-i.invariant in
-    let n = rw c.byte_at.ensures at c.if-byte_at-ne46.true in
-    name_read _ _ _ _ (h.0 ∙ last_end _ _ _ c.past_of-e.ensures n) (h.1 ∙ last_none _ _ _ c.past_of-e.ensures n _ c.if-e-i.true)
+    let n = eqb-false _ 46 (sym c.stands_at.ensures ∙ c.if-not-stands_at.true) in
+    name_read _ _ _ _ (h.end ∙ last_end _ _ _ c.past-e.ensures n) (h.name ∙ last_none _ _ _ c.past-e.ensures n _ c.if-e-i.true)
 
 pub returns-else-e-i : goal.returns-else-e-i
 unfolding label_of
 returns-else-e-i c =
     let h = c.loop-i.invariant in
-    let n = rw c.byte_at.ensures at c.if-byte_at-ne46.true in
-    name_read _ _ _ _ (h.0 ∙ last_end _ _ _ c.past_of-e.ensures n)
-    (h.1
-    ∙ last_some _ _ _ c.past_of-e.ensures n _ c.loop-i-test.true c.if-e-i.false
+    let n = eqb-false _ 46 (sym c.stands_at.ensures ∙ c.if-not-stands_at.true) in
+    name_read _ _ _ _ (h.end ∙ last_end _ _ _ c.past-e.ensures n)
+    (h.name
+    ∙ last_some _ _ _ c.past-e.ensures n _ c.loop-i-test.true c.if-e-i.false
     ∙ sym (ap (λ (l : Label). l.top) c.label_of-l.ensures))
 
 pub returns-then-not-l : goal.returns-then-not-l
 unfolding label_of
 returns-then-not-l c =
     let h = c.loop-i.invariant in
-    let d = rw c.byte_at.ensures at c.if-byte_at-ne46.false in
-    name_read _ _ _ _ (h.0 ∙ name_end _ _ _ c.past_of-e.ensures ∙ sym c.past_of.ensures)
-    (h.1
-    ∙ dot_off _ _ _ c.past_of-e.ensures d _
-    (turned_fails (ap (λ (l : Label). l.fits) c.label_of-l.ensures) c.if-not-l.true-raw))
+    let d = eqb-true _ 46 (sym c.stands_at.ensures ∙ c.if-not-stands_at.false) in
+    name_read _ _ _ _ (h.end ∙ name_end _ _ _ c.past-e.ensures ∙ sym c.past.ensures)
+    (h.name ∙ dot_off _ _ _ c.past-e.ensures d _ (sym (ap (λ (l : Label). l.fits) c.label_of-l.ensures) ∙ c.if-not-l.true))
 
 pub overflow_add-i : goal.overflow_add-i
 overflow_add-i c =
-    omega (arith, dot_within _ _ _ c.past_of-e.ensures (rw c.byte_at.ensures at c.if-byte_at-ne46.false))
+    omega (arith, dot_within _ _ _ c.past-e.ensures (eqb-true _ 46 (sym c.stands_at.ensures ∙ c.if-not-stands_at.false)))
 
 pub loop-i-smaller : goal.loop-i-smaller
-loop-i-smaller c = omega (arith, c.past_of-e.ensures, past_from is_label_byte c.args.s.now c.loop-i.i)
+loop-i-smaller c = omega (arith, c.past-e.ensures, past_from is_label_byte c.args.s.now c.loop-i.i)
 
 pub loop-i-preserved : goal.loop-i-preserved
 unfolding label_of
 loop-i-preserved c =
     let h = c.loop-i.invariant in
     let l = c.label_of-l.ensures in
-    let d = rw c.byte_at.ensures at c.if-byte_at-ne46.false in (
-      h.0 ∙ dot_end _ _ _ c.past_of-e.ensures d,
-      h.1
-          ∙ dot_on _ _ _ c.past_of-e.ensures d _ _ (turned_holds (ap (λ (l : Label). l.fits) l) c.if-not-l.false-raw)
-          (ap (λ (l : Label). l.top) l),
-    )
+    let d = eqb-true _ 46 (sym c.stands_at.ensures ∙ c.if-not-stands_at.false) in
+    record {
+      end = h.end ∙ dot_end _ _ _ c.past-e.ensures d;
+      name = h.name ∙ dot_on _ _ _ c.past-e.ensures d _ _ (sym (ap (λ (l : Label). l.fits) l) ∙ c.if-not-l.false) (ap (λ (l : Label). l.top) l);
+    }
 
 pub returns : goal.returns
 returns c =
     let h = c.loop-i.invariant in
-    name_read _ _ _ _ (h.0 ∙ past_end _ _ _ c.loop-i-test.false) (h.1 ∙ name_none _ _ _ c.loop-i-test.false)
+    name_read _ _ _ _ (h.end ∙ past_end _ _ _ c.loop-i-test.false) (h.name ∙ name_none _ _ _ c.loop-i-test.false)

@@ -1,52 +1,18 @@
--- While the pieces are as asked the answer is that of the pieces behind them, and the first that is not, or the last one, gives it.
-use mathlib.Core.Path.{refl, sym, ◌∙◌}
-use native.Mathlib.Omega.{arith}
-use borrow.Author.Rules.{rules}
-use Rattle.laws.specs.Lists.{part}
-use Rattle.laws.proofs.Tests.{turned_fails, turned_holds}
-use Rattle.uri.proofs.StepLaws.{piece_from, piece_within, piece_fails}
-use Rattle.uri.proofs.EveryLaws.{every_last, every_next}
+-- Each piece is asked.
+use Rattle.std.proofs.Common.{◌∙◌, ap, rules, tests}
+use lib.Dec.{eqb}
+use Rattle.std.proofs.lemmas.Iterator.Splits.{YieldsList-from_slice_split}
+use Rattle.std.proofs.lemmas.Iterator.Search.{all_from_yields_List}
+use Rattle.laws.specs.Lists.{every}
+use Rattle.uri.specs.Parts.{is_piece}
+use Rattle.uri.proofs.EveryLaws.{every_all}
+use Rattle.uri.proofs.PieceLaws.{pieces_split}
 use Rattle.uri.proofs.pieces.every_piece.Goals as goal
 
-pub loop-i-init : goal.loop-i-init
-loop-i-init c = (search rules, refl)
-
-pub slice_bounds-is_piece-count : goal.slice_bounds-is_piece-count
-slice_bounds-is_piece-count c = piece_from _ _ _ _ c.loop-i-test.true c.past_other-e.ensures
-
-pub slice_bounds-is_piece-start : goal.slice_bounds-is_piece-start
-slice_bounds-is_piece-start c = piece_from _ _ _ _ c.loop-i-test.true c.past_other-e.ensures
-
-pub slice_bounds-is_piece-end : goal.slice_bounds-is_piece-end
-slice_bounds-is_piece-end c = piece_within _ _ _ _ c.loop-i-test.true c.past_other-e.ensures
-
-pub returns-then-not-is_piece : goal.returns-then-not-is_piece
-unfolding part
-returns-then-not-is_piece c =
-    sym
-    (c.loop-i.invariant.1
-    ∙ piece_fails _ _ _ _ c.loop-i-test.true c.past_other-e.ensures _ (turned_fails c.is_piece.ensures c.if-not-is_piece.true-raw))
-
-pub returns-then-e-s : goal.returns-then-e-s
-unfolding part
-returns-then-e-s c =
-    sym
-    (c.loop-i.invariant.1
-    ∙ every_last _ _ _ _ c.loop-i-test.true c.past_other-e.ensures _ (turned_holds c.is_piece.ensures c.if-not-is_piece.false-raw) c.if-e-s.true)
-
-pub overflow_add-i : goal.overflow_add-i
-overflow_add-i c = omega (arith, piece_within _ _ _ _ c.loop-i-test.true c.past_other-e.ensures)
-
-pub loop-i-smaller : goal.loop-i-smaller
-loop-i-smaller c = omega (arith, piece_from _ _ _ _ c.loop-i-test.true c.past_other-e.ensures)
-
-pub loop-i-preserved : goal.loop-i-preserved
-unfolding part
-loop-i-preserved c = (
-  omega (arith, piece_within _ _ _ _ c.loop-i-test.true c.past_other-e.ensures),
-  c.loop-i.invariant.1
-      ∙ every_next _ _ _ _ c.loop-i-test.true c.past_other-e.ensures _ (turned_holds c.is_piece.ensures c.if-not-is_piece.false-raw) c.if-e-s.false,
-)
-
 pub returns : goal.returns
-returns c = absurd (omega arith)
+returns c =
+    all_from_yields_List (is_piece c.args.kind) _ _ _ c.all.ensures.ran
+    (YieldsList-from_slice_split _ (λ b. eqb b c.args.c) c.args.s.now c.split.ensures.rest c.split.ensures.done c.split.ensures.closure (λ x b q k. search (rules, tests)))
+    (λ x b q k. search (rules, tests))
+    ∙ every_all _ _
+    ∙ ap (every _) (pieces_split c.args.c c.args.s.now)
