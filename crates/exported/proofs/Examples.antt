@@ -3,12 +3,11 @@ use mathlib.Core.Path.{◌≡◌, refl}
 use Rattle.response.specs.Outcomes.{result_of, status_of}
 use Rattle.response.specs.declared.Field.TheVariants.{MinExpires, Accept, RetryAfter}
 use Rattle.response.specs.declared.Outcome.TheVariants.{Silent, Refused, Granted}
-use Rattle.response.specs.declared.fault.Fault.TheVariants.{Unsound}
 use Rattle.table.specs.declared.Shown.TheVariants.{Stored, Default, Front}
 use Rattle.exported.specs.Numbers.{tag_number, field_seconds, seconds_of, handled_numbers, shown_number, position_of, length_of, state_numbers}
 
 -- no message: the number is the result, and there is no status
-silent : handled_numbers (record { outcome = Silent Unsound; length = 0 }) ≡ record { length = 0; seconds = 0; tag = 0; status = 0; result = 5 }
+silent : handled_numbers (record { outcome = Silent 5; length = 0 }) ≡ record { length = 0; seconds = 0; tag = 0; status = 0; result = 5 }
 unfolding handled_numbers seconds_of tag_number status_of result_of
 silent = refl
 

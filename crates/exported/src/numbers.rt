@@ -2,7 +2,6 @@
 ghost use Rattle.std.specs.Prelude.{◌≡◌};
 ghost use Rattle.exported.specs.Numbers.{field_seconds, handled_numbers, state_numbers};
 
-use response::fault::number;
 use response::{Field, Outcome};
 use table::{Handled, Shown, State};
 
@@ -52,8 +51,8 @@ pub fn handled_numbers(h: Handled) -> HandledNumbers
         result: 0,
     };
     match h.outcome {
-        Outcome::Silent(fault) => HandledNumbers {
-            result: number(fault),
+        Outcome::Silent(result) => HandledNumbers {
+            result,
             ..nothing
         },
         Outcome::Refused(status, field) => HandledNumbers {

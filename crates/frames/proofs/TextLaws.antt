@@ -6,7 +6,6 @@ use Rattle.laws.specs.Bytes.{bytes}
 use Rattle.text.specs.Digits.{decimal_of}
 use Rattle.text.proofs.DigitLaws.{decimal_twenty, eight_length}
 use Rattle.tag.specs.Written.{tag_text}
-use Rattle.response.specs.Faults.{number_of}
 use Rattle.response.specs.declared.Field.{Field}
 use Rattle.response.specs.declared.Field.TheVariants.{Nothing, Allow, AllowEvents, MinExpires, Accept, RetryAfter}
 use Rattle.response.specs.declared.Outcome.{Outcome}
@@ -32,7 +31,7 @@ field_most (RetryAfter seconds) = decimal_twenty seconds
 -- what an outcome says is at most 43
 outcome_most : (o : Outcome) → length (outcome_text o) ≤ 43
 unfolding outcome_text tag_text
-outcome_most (Silent f) = omega (arith, length-append (bytes "none ") (decimal_of (number_of f)), decimal_twenty (number_of f))
+outcome_most (Silent n) = omega (arith, length-append (bytes "none ") (decimal_of n), decimal_twenty n)
 outcome_most (Refused status field) = simp length-append (omega (arith, decimal_twenty status, field_most field))
 outcome_most (Granted tag time) = simp length-append (omega (arith, eight_length tag, decimal_twenty time))
 

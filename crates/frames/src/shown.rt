@@ -6,7 +6,7 @@ ghost use Rattle.response.specs.declared.Outcome.TheVariants.{Refused, Granted};
 ghost use Rattle.frames.specs.Shown.{shown_text, line_text};
 
 use crate::{readout, words};
-use response::{Field, Outcome, fault};
+use response::{Field, Outcome};
 use table::State;
 use text::{digits, put};
 
@@ -65,7 +65,7 @@ fn put_outcome(buf: &mut [u8], at: usize, o: Outcome) -> usize
     ensures { Wrote buf.old at (outcome_text o) buf.new result }
 {
     match o {
-        Outcome::Silent(f) => words::put_word(buf, at, b"none ", u64::from(fault::number(f))),
+        Outcome::Silent(n) => words::put_word(buf, at, b"none ", u64::from(n)),
         Outcome::Refused(status, field) => put_refused(buf, at, status, field),
         Outcome::Granted(tag, time) => put_granted(buf, at, tag, time),
     }

@@ -8,7 +8,6 @@ use Rattle.record.specs.Places.{empty_record}
 use Rattle.record.specs.Address.{padded}
 use Rattle.response.specs.declared.Field.TheVariants.{Nothing, Allow, AllowEvents, Accept, RetryAfter}
 use Rattle.response.specs.declared.Outcome.TheVariants.{Silent, Refused, Granted}
-use Rattle.response.specs.declared.fault.Fault.TheVariants.{SmallBuffer, BadSize, LongRequest, LateClock, Unsound, Unreadable}
 use Rattle.table.specs.Table.{Table}
 use Rattle.table.specs.Add.{added}
 use Rattle.table.specs.Handle.{done}
@@ -20,22 +19,22 @@ use Rattle.listing.specs.Worked.{at, ann_table, back, run_of, backs}
 use Rattle.listing.specs.All.{all_listing}
 
 -- 1: an answer buffer of 4,607 bytes
-small_buffer : (done (ann_table 0) (replicate 4607 0) (at 1 [])).handled.outcome ≡ Silent SmallBuffer
+small_buffer : (done (ann_table 0) (replicate 4607 0) (at 1 [])).handled.outcome ≡ Silent 1
 unfolding all_listing
 small_buffer = refl
 
 -- 2: seventeen records
-many_records : back (record { records = replicate 17 empty_record; store = replicate 69632 0 }) (at 1 []) ≡ Silent BadSize
+many_records : back (record { records = replicate 17 empty_record; store = replicate 69632 0 }) (at 1 []) ≡ Silent 2
 unfolding all_listing
 many_records = refl
 
 -- 3: a request of 4,097 bytes
-long_request : back (ann_table 0) (at 1 (replicate 4097 65)) ≡ Silent LongRequest
+long_request : back (ann_table 0) (at 1 (replicate 4097 65)) ≡ Silent 3
 unfolding all_listing
 long_request = refl
 
 -- 4: a clock above its limit
-late_clock : back (ann_table 0) (at 1000000000001 (telling "ann" "Event: presence\r\n")) ≡ Silent LateClock
+late_clock : back (ann_table 0) (at 1000000000001 (telling "ann" "Event: presence\r\n")) ≡ Silent 4
 unfolding all_listing
 late_clock = refl
 
@@ -48,12 +47,12 @@ marked n =
     }
 
 -- 5: a record in use with no address
-unsound_record : back (marked 1) (at 1 (telling "ann" "Event: presence\r\n")) ≡ Silent Unsound
+unsound_record : back (marked 1) (at 1 (telling "ann" "Event: presence\r\n")) ≡ Silent 5
 unfolding all_listing
 unsound_record = refl
 
 -- 5: a record that says neither that it is in use nor that it is not
-unmarked_record : back (marked 2) (at 1 (telling "ann" "Event: presence\r\n")) ≡ Silent Unsound
+unmarked_record : back (marked 2) (at 1 (telling "ann" "Event: presence\r\n")) ≡ Silent 5
 unfolding all_listing
 unmarked_record = refl
 
@@ -63,7 +62,7 @@ unfolding all_listing
 unmarked_added = refl
 
 -- 6: no Via line
-no_via : back (ann_table 0) (at 1 (bytes "PUBLISH ann SIP/2.0\r\nFrom: <ann>;tag=1\r\nTo: <ann>\r\nCall-ID: 1\r\nCSeq: 1 PUBLISH\r\n\r\n")) ≡ Silent Unreadable
+no_via : back (ann_table 0) (at 1 (bytes "PUBLISH ann SIP/2.0\r\nFrom: <ann>;tag=1\r\nTo: <ann>\r\nCall-ID: 1\r\nCSeq: 1 PUBLISH\r\n\r\n")) ≡ Silent 6
 unfolding all_listing
 no_via = refl
 

@@ -7,7 +7,6 @@ use Rattle.tag.specs.Written.{tag_text}
 use Rattle.response.specs.declared.Field.{Field}
 use Rattle.response.specs.declared.Field.TheVariants.{Nothing, Allow, AllowEvents, MinExpires, Accept, RetryAfter}
 use Rattle.response.specs.declared.Outcome.{Outcome}
-use Rattle.response.specs.Faults.{number_of}
 use Rattle.response.specs.declared.Outcome.TheVariants.{Silent, Refused, Granted}
 use Rattle.table.specs.Table.{Table}
 use Rattle.table.specs.Add.{added}
@@ -26,7 +25,7 @@ field_text (RetryAfter seconds) = decimal_of seconds
 
 -- status, tag or -, and granted time, Min-Expires, Retry-After or -; or "none" and result
 unfoldable pub outcome_text : Outcome → List ℕ
-outcome_text (Silent fault) = bytes "none " ++ decimal_of (number_of fault)
+outcome_text (Silent n) = bytes "none " ++ decimal_of n
 outcome_text (Refused status field) = decimal_of status ++ (bytes " - " ++ field_text field)
 outcome_text (Granted tag time) = bytes "200 " ++ (tag_text tag ++ (bytes " " ++ decimal_of time))
 

@@ -18,7 +18,6 @@ use Rattle.record.specs.declared.Record.{Record}
 use Rattle.response.specs.declared.Field.TheVariants.{Nothing, Allow, AllowEvents, MinExpires, Accept, RetryAfter}
 use Rattle.response.specs.declared.Outcome.{Outcome}
 use Rattle.response.specs.declared.Outcome.TheVariants.{Silent, Refused, Granted}
-use Rattle.response.specs.declared.fault.Fault.TheVariants.{SmallBuffer, BadSize, LongRequest, LateClock, Unsound, Unreadable}
 
 -- everything that a request is tried against: the sizes lent, whether every record is sound, whether the address is in the
 -- table, its record (all zero where it is not), the clock, the request's bytes and what its head says
@@ -80,16 +79,16 @@ is_full r clock s h = not (has_match h) && (ltb 0 (granted s h) && eqb (length (
 -- the refusals, in the order tried: before anything is read, the sizes of what is lent and the clock
 unfoldable pub size_rows : ℕ → ℕ → ℕ → ℕ → ℕ → List (Row Outcome)
 size_rows buffer records store request clock =
-    row (ltb buffer 4608) (Silent SmallBuffer) ∷
-    row (is_bad_size records store) (Silent BadSize) ∷
-    row (ltb 4096 request) (Silent LongRequest) ∷
-    row (ltb latest_clock clock) (Silent LateClock) ∷
+    row (ltb buffer 4608) (Silent 1) ∷
+    row (is_bad_size records store) (Silent 2) ∷
+    row (ltb 4096 request) (Silent 3) ∷
+    row (ltb latest_clock clock) (Silent 4) ∷
     []
 
 -- then, behind the soundness of every record, what the request says by itself
 unfoldable pub reading_rows : List ℕ → Head → List (Row Outcome)
 reading_rows s h =
-    row (not (is_readable s h) || same (method_of s h) (bytes "ACK")) (Silent Unreadable) ∷
+    row (not (is_readable s h) || same (method_of s h) (bytes "ACK")) (Silent 6) ∷
     row (not (same (method_of s h) (bytes "PUBLISH"))) (Refused 405 Allow) ∷
     row (is_bad_request s h) (Refused 400 Nothing) ∷
     []
@@ -129,7 +128,7 @@ request_rows known r clock s h =
 unfoldable pub refusals : Case → List (Row Outcome)
 refusals c =
     size_rows c.buffer c.records c.store (length c.text) c.clock
-    ++ (row (not c.sound) (Silent Unsound) ∷ request_rows c.known c.own c.clock c.text c.head)
+    ++ (row (not c.sound) (Silent 5) ∷ request_rows c.known c.own c.clock c.text c.head)
 
 -- the first that applies is given, and otherwise the request succeeds
 unfoldable pub outcome_of : Case → Outcome

@@ -13,7 +13,7 @@ ghost use Rattle.publish.specs.Refusal.{refusal_in};
 use crate::asking::Trial;
 use record::Record;
 use request::names::Name;
-use response::fault::Fault;
+use response::fault::{Fault, number};
 use response::{Field, Outcome};
 
 // Whether the request succeeds.
@@ -44,16 +44,16 @@ pub fn sizes_refusal(
     ensures { result ≡ refusal_in (size_rows buffer records store request clock) }
 {
     if buffer < 4608 {
-        return Err(Outcome::Silent(Fault::SmallBuffer));
+        return Err(Outcome::Silent(number(Fault::SmallBuffer)));
     }
     if is_bad_size(records, store) {
-        return Err(Outcome::Silent(Fault::BadSize));
+        return Err(Outcome::Silent(number(Fault::BadSize)));
     }
     if 4096 < request {
-        return Err(Outcome::Silent(Fault::LongRequest));
+        return Err(Outcome::Silent(number(Fault::LongRequest)));
     }
     if 1000000000000 < clock {
-        return Err(Outcome::Silent(Fault::LateClock));
+        return Err(Outcome::Silent(number(Fault::LateClock)));
     }
     Ok(())
 }
@@ -67,7 +67,7 @@ impl Trial<'_> {
         let q = self.request;
         let method = q.method();
         if !q.head.is_readable(self.asked.to) || text::runs::are_same(method, b"ACK") {
-            return Err(Outcome::Silent(Fault::Unreadable));
+            return Err(Outcome::Silent(number(Fault::Unreadable)));
         }
         if !text::runs::are_same(method, b"PUBLISH") {
             return Err(Outcome::Refused(405, Field::Allow));

@@ -6,7 +6,6 @@ use Rattle.laws.specs.Bytes.{bytes}
 use Rattle.text.specs.Digits.{decimal_of}
 use Rattle.tag.specs.Written.{tag_text}
 use Rattle.record.specs.Packages.{package_at}
-use Rattle.response.specs.Faults.{number_of}
 use Rattle.response.specs.declared.Field.{Field}
 use Rattle.response.specs.declared.Field.TheVariants.{Nothing, Allow, AllowEvents, MinExpires, Accept, RetryAfter}
 use Rattle.response.specs.declared.Outcome.{Outcome}
@@ -14,25 +13,25 @@ use Rattle.response.specs.declared.Outcome.TheVariants.{Silent, Refused, Granted
 
 -- the result of a call: 0 means a message was written
 unfoldable pub result_of : Outcome → ℕ
-result_of (Silent fault) = number_of fault
+result_of (Silent n) = n
 result_of (Refused status field) = 0
 result_of (Granted tag time) = 0
 
 -- the status of the message; 0 where there is none
 unfoldable pub status_of : Outcome → ℕ
-status_of (Silent fault) = 0
+status_of (Silent n) = 0
 status_of (Refused status field) = status
 status_of (Granted tag time) = 200
 
 -- no message is due
 unfoldable pub is_silent : Outcome → Bool
-is_silent (Silent fault) = true
+is_silent (Silent n) = true
 is_silent (Refused status field) = false
 is_silent (Granted tag time) = false
 
 -- the request succeeds
 unfoldable pub is_success : Outcome → Bool
-is_success (Silent fault) = false
+is_success (Silent n) = false
 is_success (Refused status field) = false
 is_success (Granted tag time) = true
 
@@ -82,6 +81,6 @@ field_line (RetryAfter seconds) = our_field (bytes "Retry-After") (decimal_of se
 
 -- for 200 SIP-ETag then Expires (granted); otherwise the field of the table
 unfoldable pub field_lines : Outcome → List ℕ
-field_lines (Silent fault) = []
+field_lines (Silent n) = []
 field_lines (Refused status field) = field_line field
 field_lines (Granted tag time) = our_field (bytes "SIP-ETag") (tag_text tag) ++ our_field (bytes "Expires") (decimal_of time)

@@ -7,8 +7,6 @@ pub mod message;
 pub mod own_fields;
 pub mod status_line;
 
-use fault::Fault;
-
 // The field that a refusal's message carries: none, or one of the table's with its value.
 #[derive(Clone, Copy, PartialEq, Eq)]
 pub enum Field {
@@ -20,10 +18,11 @@ pub enum Field {
     RetryAfter(u64),
 }
 
-// What comes back: a fault without a message, a refusal with its status and field, or 200 with tag and time granted.
+// What comes back: a result without a message, a refusal with its status and field, or 200 with tag and time granted.
+// A number, not a `Fault`: what takes an outcome takes any result, as response/Outcomes.result_of and the theorems of listing have it.
 #[derive(Clone, Copy, PartialEq, Eq)]
 pub enum Outcome {
-    Silent(Fault),
+    Silent(u8),
     Refused(u16, Field),
     Granted(u32, u32),
 }

@@ -17,7 +17,6 @@ use Rattle.publish.specs.Refusal.{refusal_in, is_refusal}
 use Rattle.response.specs.declared.Outcome.{Outcome}
 use Rattle.response.specs.declared.Outcome.TheVariants.{Silent, Granted}
 use Rattle.std.specs.Prelude.{Ok, Err, ⊤}
-use Rattle.response.specs.declared.fault.Fault.TheVariants.{SmallBuffer}
 use Rattle.publish.proofs.RefusedLaws.{none_refuses, passed_first, first_err, front_err}
 use Rattle.table.specs.Looked.{early_rows}
 
@@ -46,7 +45,7 @@ module _ (c : Case) where
   pub early_silent : {o : Outcome} → refusal_in early ≡ Err o → is_silent o ≡ true
   unfolding every is_silent early_rows size_rows
   early_silent {o} e =
-      rw (first_err early (Silent SmallBuffer) o e) at (first_passes is_silent early (Silent SmallBuffer) refl refl)
+      rw (first_err early (Silent 0) o e) at (first_passes is_silent early (Silent 0) refl refl)
 
   -- where they pass, the outcome is what the request's own rows give
   pub early_ok : {u : ⊤} → refusal_in early ≡ Ok u

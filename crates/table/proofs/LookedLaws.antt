@@ -26,8 +26,6 @@ use Rattle.response.specs.Outcomes.{is_silent, is_success}
 use Rattle.publish.specs.Refusals.{Case, is_bad_size, size_rows, refusals, outcome_of}
 use Rattle.publish.specs.Step.{answer_of, success_of, own_after, part_afterwards}
 use Rattle.response.specs.declared.Outcome.TheVariants.{Silent}
-use Rattle.response.specs.declared.fault.Fault.{Fault}
-use Rattle.response.specs.declared.fault.Fault.TheVariants.{SmallBuffer, BadSize, LongRequest}
 use Rattle.table.specs.Table.{Table, bad_size, place_for, is_known, record_at, with_record}
 use Rattle.table.specs.Open.{After, open_refusals, emptied, opened}
 use Rattle.table.specs.Add.{Entry, add_refusals, lowest_unused, fresh_record, added}
@@ -190,27 +188,27 @@ module _ (rs : List Record) (store buffer : List ℕ) (number : ℕ) where
       go false e = rw (e, past_end rs c.own)
 
   -- a silent outcome leaves everything as it is
-  silent_put : (c : Case) (i : ℕ) (k : Fault) → outcome_of c ≡ Silent k
+  silent_put : (c : Case) (i k : ℕ) → outcome_of c ≡ Silent k
       → put_case c i ≡ record { handled = record { outcome = Silent k; length = 0 }; table = lent_table rs store; buffer = buffer }
   unfolding answer_of is_silent is_success
   silent_put c i k e = rw (e, past_end rs c.own)
 
 -- with sizes that are not good a request is refused with 1 or 2
-bad_outcome : (c : Case) → is_bad_size c.records c.store ≡ true → outcome_of c ≡ Silent (pick (ltb c.buffer 4608) SmallBuffer BadSize)
+bad_outcome : (c : Case) → is_bad_size c.records c.store ≡ true → outcome_of c ≡ Silent (pick (ltb c.buffer 4608) 1 2)
 unfolding outcome_of refusals size_rows first_of
 bad_outcome c e = go (ltb c.buffer 4608) refl
   where
-    go : (b : Bool) → ltb c.buffer 4608 ≡ b → outcome_of c ≡ Silent (pick (ltb c.buffer 4608) SmallBuffer BadSize)
+    go : (b : Bool) → ltb c.buffer 4608 ≡ b → outcome_of c ≡ Silent (pick (ltb c.buffer 4608) 1 2)
     go true h = rw h
     go false h = rw (h, e)
 
 -- and with sizes that are, one above 4,096 bytes is refused with 1 or 3
 long_outcome : (c : Case) → is_bad_size c.records c.store ≡ false → ltb 4096 (length c.text) ≡ true
-    → outcome_of c ≡ Silent (pick (ltb c.buffer 4608) SmallBuffer LongRequest)
+    → outcome_of c ≡ Silent (pick (ltb c.buffer 4608) 1 3)
 unfolding outcome_of refusals size_rows first_of
 long_outcome c e l = go (ltb c.buffer 4608) refl
   where
-    go : (b : Bool) → ltb c.buffer 4608 ≡ b → outcome_of c ≡ Silent (pick (ltb c.buffer 4608) SmallBuffer LongRequest)
+    go : (b : Bool) → ltb c.buffer 4608 ≡ b → outcome_of c ≡ Silent (pick (ltb c.buffer 4608) 1 3)
     go true h = rw h
     go false h = rw (h, e, l)
 
@@ -263,14 +261,14 @@ module _ (rs : List Record) (store : List ℕ) (clock number : ℕ) (s answer : 
       put = put_case rs store answer number
 
       -- two cases that are silent alike leave the same
-      alike : (k : Fault) → outcome_of lent_case ≡ Silent k → outcome_of (own_case b) ≡ Silent k
+      alike : (k : ℕ) → outcome_of lent_case ≡ Silent k → outcome_of (own_case b) ≡ Silent k
           → put lent_case settled.place ≡ put (own_case b) b.place
       alike k e f = silent_put rs store answer number lent_case settled.place k e ∙ sym (silent_put rs store answer number (own_case b) b.place k f)
 
       go : (bad long : Bool) → is_bad_size (length rs) (length store) ≡ bad → ltb 4096 (length s) ≡ long
           → put lent_case settled.place ≡ put (own_case b) b.place
-      go true l e f = alike (pick (ltb (length answer) 4608) SmallBuffer BadSize) (bad_outcome lent_case e) (bad_outcome (own_case b) e)
-      go false true e f = alike (pick (ltb (length answer) 4608) SmallBuffer LongRequest) (long_outcome lent_case e f) (long_outcome (own_case b) e f)
+      go true l e f = alike (pick (ltb (length answer) 4608) 1 2) (bad_outcome lent_case e) (bad_outcome (own_case b) e)
+      go false true e f = alike (pick (ltb (length answer) 4608) 1 3) (long_outcome lent_case e f) (long_outcome (own_case b) e f)
       go false false e f =
           ap (λ (c : Case). put c settled.place) (sym same_case)
           ∙ ap (λ (x : Begun). put (own_case x) x.place)

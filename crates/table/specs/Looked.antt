@@ -21,7 +21,6 @@ use Rattle.response.specs.declared.Outcome.{Outcome}
 use Rattle.response.specs.declared.Outcome.TheVariants.{Silent}
 use Rattle.response.specs.Faults.{number_of}
 use Rattle.response.specs.declared.fault.Fault.{Fault}
-use Rattle.response.specs.declared.fault.Fault.TheVariants.{Unsound}
 use Rattle.table.specs.Add.{Entry, fresh_record}
 use Rattle.table.specs.declared.looks.Sought.{Sought}
 use Rattle.table.specs.declared.handling.Begun.{Begun}
@@ -117,7 +116,7 @@ case_with b own n store buffer clock s =
 
 -- the refusals tried before what the request says: the sizes of what is lent and the clock, then the soundness of every record
 unfoldable pub early_rows : Bool → ℕ → ℕ → ℕ → ℕ → ℕ → List (Row Outcome)
-early_rows sound n store request buffer clock = size_rows buffer n store request clock ++ (row (not sound) (Silent Unsound) ∷ [])
+early_rows sound n store request buffer clock = size_rows buffer n store request clock ++ (row (not sound) (Silent 5) ∷ [])
 
 -- what handling comes to: outcome and length, the record that is kept, and its place
 pub record HandleOut : Type 0 where

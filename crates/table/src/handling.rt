@@ -16,7 +16,7 @@ use publish::asking::Trial;
 use publish::{Asked, refusals};
 use record::Record;
 use request::{Head, Request, ToValue, reading};
-use response::fault::Fault;
+use response::fault::{Fault, number};
 use response::{Outcome, message};
 use success::Success;
 
@@ -65,7 +65,7 @@ fn early_refusal(
 {
     refusals::sizes_refusal(buffer, n, store, request, clock)?;
     if !sound {
-        return Err(Outcome::Silent(Fault::Unsound));
+        return Err(Outcome::Silent(number(Fault::Unsound)));
     }
     Ok(())
 }
