@@ -1,8 +1,9 @@
--- The laws of what the fields of a request say: a number is no larger than it may be, and the body no longer than what is there.
+-- The laws of what the fields of a request say: a number is no larger than it may be, and the body no longer than what is there, nor
+-- than the request.
 use Prim.Native.Nat.{ℕ, ◌≤◌}
 use mathlib.Core.List.{List}
 use native.Mathlib.Omega.{arith}
-use lib.ListN.{length-take}
+use lib.ListN.{length, length-take}
 use Rattle.std.proofs.lemmas.Grind.{common_steps}
 use Rattle.laws.proofs.Parts.{part_none}
 use Rattle.text.specs.Number.{number_of, value_or}
@@ -19,6 +20,15 @@ value_most most s = grind (arith, common_steps)
 pub body_there : (s : List ℕ) (h : Head) → body_length s h ≤ there s h
 unfolding body_length content_length
 body_there s h = grind (arith, value_most)
+
+-- no more is there than the whole request
+pub there_within : (s : List ℕ) (h : Head) → there s h ≤ length s
+unfolding there
+there_within s h = omega arith
+
+-- nor is the body longer than that
+pub body_within : (s : List ℕ) (h : Head) → body_length s h ≤ length s
+body_within s h = omega (arith, body_there s h, there_within s h)
 
 -- what the functions that cut parts out of a request are proved with
 pub ruleset field_parts = (length-take, part_none, past_within, body_there)
