@@ -1,5 +1,5 @@
--- A list of at most sixteen records is the front of the first sixteen.
-use mathlib.Core.Path.{◌≡◌, sym, ◌∙◌, ap}
+-- The first sixteen are sixteen, and a list of at most sixteen records is the front of them.
+use mathlib.Core.Path.{◌≡◌, refl, sym, ◌∙◌, ap}
 use mathlib.Core.List.{List, [], ◌∷◌}
 use Prim.Native.Nat.{ℕ, zero, suc, ◌+◌, ◌≤◌}
 use native.Mathlib.Numerals.{add-one}
@@ -28,3 +28,8 @@ front (suc n) (suc k) i xs h e =
 pub take_sixteen : (xs : List Record) → length xs ≤ 16 → take (length xs) (first_sixteen xs) ≡ xs
 unfolding first_sixteen filled
 take_sixteen xs h = front 16 (length xs) 0 xs h (omega arith)
+
+-- there are sixteen
+pub length_sixteen : (xs : List Record) → length (first_sixteen xs) ≡ 16
+unfolding first_sixteen
+length_sixteen xs = refl

@@ -7,13 +7,15 @@ use Prim.Native.Nat.{ℕ, zero, suc, ◌+◌, ◌*◌, ◌-◌, ◌/◌, ◌%◌
 use native.Mathlib.Nat.{not-suc-le-zero, le_of_suc-le-suc, pow-succ', div-div-eq-div-mul, div-eq_of_lt, div-one}
 use native.Mathlib.Omega.{arith}
 use native.Mathlib.Decide.{dec_lt}
+use lib.Dec.{eqb}
 use lib.ListN.{length, set}
-use borrow.Author.Tests.{eqb-true}
+use borrow.Author.Tests.{eqb-true, eqb-false}
 use Rattle.laws.specs.Choose.{pick}
 use Rattle.laws.specs.Lists.{those, place_of, listed}
 use Rattle.laws.proofs.Table.{agree}
 use Rattle.record.specs.Map.{lowest_free_in, occupied_in, has_place, with_place, without_place}
-use Rattle.record.specs.Places.{Place, map_of, lowest_free}
+use Rattle.record.specs.Places.{Place, places_in, map_of, lowest_free}
+use Rattle.record.specs.declared.Slot.{Slot}
 use Rattle.record.proofs.Places.{lowest_bit, other_bits}
 
 -- two rules that give the same for each of the 256 maps and each of the eight places, which is computed, once
@@ -56,6 +58,18 @@ small (p ∷ ps) = rw (pow-succ' 2 (length ps)) (go p.taken (small ps))
     go : (t : Bool) → map_of ps < 2 ^ length ps → more t (map_of ps) < 2 * 2 ^ length ps
     go true h = omega arith
     go false h = omega arith
+
+-- the places that a map gives to some slots have that map
+back : (m : ℕ) (ss : List Slot) → m < 2 ^ length ss → map_of (places_in m ss) ≡ m
+unfolding places_in map_of
+back m [] h = omega arith
+back m (s ∷ ss) h =
+    let l : m < 2 * 2 ^ length ss = rw (pow-succ' 2 (length ss)) at h in
+    rw (back (m / 2) ss (omega arith)) (go (eqb (m % 2) 1) refl)
+  where
+    go : (b : Bool) → eqb (m % 2) 1 ≡ b → more b (m / 2) ≡ m
+    go true e = let o : m % 2 ≡ 1 = eqb-true (m % 2) 1 e in omega arith
+    go false e = let o : m % 2 ≡ 1 → ⊥ = eqb-false (m % 2) 1 e in omega arith
 
 -- a later place of a map is a place of its other bits
 has_later : (t : Bool) (m k : ℕ) → has_place (more t m) (suc k) ≡ has_place m k
@@ -130,3 +144,7 @@ module _ (ps : List Place) (e : length ps ≡ 8) where
   -- with a free place put in it does not
   pub map_without : (k : ℕ) (p : Place) → p.taken ≡ false → k < 8 → map_of (set ps k p) ≡ without_place (map_of ps) k
   map_without k p t h = put_in ps k p (omega arith) ∙ rw t
+
+-- the places that a map gives to eight slots have that map
+pub map_back : (m : ℕ) (ss : List Slot) → length ss ≡ 8 → m < 256 → map_of (places_in m ss) ≡ m
+map_back m ss e h = back m ss (rw e h)

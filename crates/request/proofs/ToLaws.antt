@@ -1,15 +1,16 @@
 -- The laws of the text outside quotes: at each place of a walk through it, and at the first of some byte.
-use mathlib.Core.Path.{◌≡◌, refl, sym}
-use mathlib.Core.Bool.{true, false}
+use mathlib.Core.Path.{◌≡◌, refl, sym, ◌∙◌, ap}
+use mathlib.Core.Bool.{Bool, true, false}
 use mathlib.Core.List.{List, [], ◌∷◌}
 use Prim.Native.Nat.{ℕ, suc, ◌+◌, ◌<◌, ◌≤◌}
 use native.Mathlib.Numerals.{add-one}
 use native.Mathlib.Omega.{arith}
-use lib.Dec.{eqb, leb-suc-suc}
+use lib.Dec.{eqb, ltb, leb-suc-suc}
 use lib.ListN.{length, get_or, drop, drop_of_length-le}
 use lib.Seq.{drop-cons}
-use borrow.Author.Tests.{eq-eqb, ne_eqb, lt-ltb}
+use borrow.Author.Tests.{eq-eqb, ne_eqb, eqb-true, lt-ltb}
 use Rattle.std.proofs.lemmas.List.{take_rest}
+use Rattle.laws.specs.Choose.{pick}
 use Rattle.laws.specs.Lists.{place_of}
 use Rattle.request.specs.declared.Quote.{Quote}
 use Rattle.request.specs.declared.Quote.TheVariants.{Outside, Inside, Covered}
@@ -26,6 +27,35 @@ unfolding shown_in
 leaves Outside x h = stays x h
 leaves Inside x h = absurd (h refl)
 leaves Covered x h = absurd (h refl)
+
+-- the text outside quotes is as long as the text
+shown_length : (q : Quote) (s : List ℕ) → length (outside_quotes q s) ≡ length s
+unfolding outside_quotes
+shown_length q [] = refl
+shown_length q (x ∷ xs) = ap suc (shown_length (next_quote q x) xs)
+
+-- a byte is there exactly if its place is before the end
+pub shown_has : (b : ℕ) (q : Quote) (s : List ℕ) → has b (outside_quotes q s) ≡ ltb (place_of (eqb b) (outside_quotes q s)) (length s)
+unfolding has
+shown_has b q s = rw (shown_length q s)
+
+-- behind the first byte that is looked for, one other than the quote mark, stands what is outside quotes in the text behind it
+pub behind : (b : ℕ) → (b ≡ 34 → ⊥) → (q : Quote) (s : List ℕ)
+    → behind_first b (outside_quotes q s) ≡ outside_quotes Outside (drop (place_of (eqb b) (outside_quotes q s) + 1) s)
+unfolding behind_first place_of outside_quotes
+behind b n q [] = refl
+behind b n q (x ∷ xs) = go (eqb b (shown_in q x)) refl (behind b n (next_quote q x) xs)
+  where
+    rest : List ℕ
+    rest = outside_quotes (next_quote q x) xs
+
+    k : ℕ
+    k = place_of (eqb b) rest
+
+    go : (t : Bool) → eqb b (shown_in q x) ≡ t → drop (k + 1) rest ≡ outside_quotes Outside (drop (k + 1) xs)
+        → drop (pick t 0 (suc k) + 1) (shown_in q x ∷ rest) ≡ outside_quotes Outside (drop (pick t 0 (suc k) + 1) (x ∷ xs))
+    go true e w = ap (λ (p : Quote). outside_quotes p xs) (leaves q x (λ i. n (eqb-true b (shown_in q x) e ∙ i)))
+    go false e w = rw add-one (rw add-one at w)
 
 module _ (q : Quote) (s : List ℕ) (i : ℕ) where
   -- at the end of the text the state says whether the quotes close

@@ -1,7 +1,7 @@
 -- The message fits the answer buffer: how long each of its parts is at most.
 use mathlib.Core.Path.{◌≡◌}
 use mathlib.Core.Bool.{true}
-use mathlib.Core.List.{List}
+use mathlib.Core.List.{List, []}
 use Prim.Native.Nat.{ℕ, ◌+◌, ◌≤◌}
 use native.Mathlib.Omega.{arith}
 use lib.ListN.{length, length-append}
@@ -11,6 +11,7 @@ use Rattle.text.specs.Digits.{eight_hex}
 use Rattle.text.proofs.DigitLaws.{decimal_twenty, eight_length}
 use Rattle.tag.specs.Written.{tag_text}
 use Rattle.record.specs.Packages.{packages, package_at}
+use Rattle.record.proofs.PackageLaws.{no_type}
 use Rattle.request.specs.declared.Line.{Line}
 use Rattle.request.specs.declared.ToValue.{ToValue}
 use Rattle.request.specs.HeaderLines.{bare_line, whole_line, copied, value_of}
@@ -42,6 +43,10 @@ field_length name value = simp length-append (omega arith)
 type_fits : (e : ℕ) → length (package_at e).type ≤ 34
 unfolding package_at packages
 type_fits e = grind arith
+
+-- a package that is not listed has none
+pub type_none : (e : ℕ) → (e ≡ 0 → ⊥) → (e ≡ 1 → ⊥) → (e ≡ 2 → ⊥) → (package_at e).type ≡ []
+type_none e a b c = no_type e (omega arith)
 
 -- the field of a tag is 20 bytes
 pub tag_field_length : (tag : ℕ) → length (our_field (bytes "SIP-ETag") (tag_text tag)) ≡ 20

@@ -21,7 +21,7 @@ use Rattle.record.specs.declared.Slot.{Slot}
 use Rattle.record.specs.declared.Record.{Record}
 use Rattle.success.specs.declared.Success.{Success}
 use Rattle.success.proofs.StoreLaws.{places_in_length, whole_slots}
-use Rattle.record.proofs.Places.{place_at, taken_below, Apart, Came, places_back, those_agree, apart_after}
+use Rattle.record.proofs.Places.{place_at, taken_below, slots_taken, Apart, Came, places_back, those_agree, apart_after}
 use Rattle.success.proofs.Cleared.{in_body, cleared_at}
 use Rattle.success.proofs.Stands.{IsNew, IsOld, and_none, live_stays, freed_at_lem, stands}
 use Rattle.record.proofs.SoundLaws.{SlotHolds, RecordHolds, sound_found, sound_tested}
@@ -30,6 +30,11 @@ use Rattle.record.proofs.SoundLaws.{SlotHolds, RecordHolds, sound_found, sound_t
 pub places_after_lem : (x : Success) (r : Record) → places (record_after x r) ≡ places_after x r
 unfolding places record_after
 places_after_lem x r = places_back (places_after x r)
+
+-- its occupied slots are those of these places
+pub occupied_after : (x : Success) (r : Record) → occupied (record_after x r) ≡ slots_taken (places_after x r)
+unfolding occupied
+occupied_after x r = rw (places_after_lem x r)
 
 -- a slot that is occupied after a success ends later than its clock
 pub runs_on : (x : Success) (r : Record) (k : ℕ) → (place_at (places_after x r) k).taken ≡ true → x.clock < (place_at (places_after x r) k).slot.end

@@ -3,10 +3,10 @@ use mathlib.Core.Path.{◌≡◌, refl, sym, ◌∙◌, ap}
 use mathlib.Core.Bool.{Bool, true, false, ◌&&◌, and-false}
 use mathlib.Core.Logic.{◌⊎◌, inl, inr}
 use mathlib.Core.List.{List, [], ◌∷◌}
-use Prim.Native.Nat.{ℕ, zero, suc, ◌+◌, ◌*◌, ◌<◌, ◌≤◌}
+use Prim.Native.Nat.{ℕ, zero, suc, ◌+◌, ◌*◌, ◌/◌, ◌%◌, ◌<◌, ◌≤◌}
 use native.Mathlib.Omega.{arith}
-use native.Mathlib.Nat.{not-suc-le-zero, le_of_suc-le-suc}
-use lib.Dec.{ltb}
+use native.Mathlib.Nat.{le_refl, not-suc-le-zero, le_of_suc-le-suc}
+use lib.Dec.{eqb, ltb}
 use lib.ListN.{length, get_or, set}
 use lib.Seq.{set_out}
 use borrow.Author.Tests.{eq-eqb, ne_eqb, lt-ltb, le-ltb, ltb-true}
@@ -27,6 +27,16 @@ use Rattle.record.proofs.MapLaws.{map_lowest, map_with, map_without}
 use Rattle.success.proofs.StoreLaws.{slots_of_length, freed_places_length, part_after_length}
 use Rattle.laws.proofs.Puts.{put_same, put_again}
 use Rattle.success.proofs.AfterLaws.{places_after_lem}
+
+-- the lowest free of k places is at most k
+pub lowest_most : (k m : ℕ) → lowest_free_in k m ≤ k
+unfolding lowest_free_in
+lowest_most zero m = le_refl 0
+lowest_most (suc k) m = go (eqb (m % 2) 1) (lowest_most k (m / 2))
+  where
+    go : (b : Bool) → lowest_free_in k (m / 2) ≤ k → pick b (suc (lowest_free_in k (m / 2))) 0 ≤ suc k
+    go true h = omega arith
+    go false h = omega arith
 
 -- the slots of places of which one is replaced
 slots_set : (ps : List Place) (k : ℕ) (p : Place) → slots_of (set ps k p) ≡ set (slots_of ps) k p.slot

@@ -2,7 +2,7 @@
 use mathlib.Core.Path.{◌≡◌, refl}
 use mathlib.Core.Bool.{Bool, true, false}
 use mathlib.Core.List.{List, [], ◌∷◌, ◌++◌, append_assoc}
-use Prim.Native.Nat.{ℕ, zero, suc, ◌+◌, ◌-◌, ◌/◌, ◌%◌, ◌<◌, ◌≤◌}
+use Prim.Native.Nat.{ℕ, zero, suc, ◌+◌, ◌-◌, ◌/◌, ◌%◌, ◌^◌, ◌<◌, ◌≤◌}
 use native.Mathlib.Numerals.{sub-one}
 use native.Mathlib.Omega.{arith}
 use lib.Dec.{ltb}
@@ -48,6 +48,18 @@ decimal_length (suc k) n = decimal_more k k n (decimal_length k (n / 10))
 pub decimal_twenty : (n : ℕ) → length (decimal_of n) ≤ 20
 unfolding decimal_of
 decimal_twenty n = decimal_length 20 n
+
+-- a number below a power of ten has no more digits than the power says
+pub decimal_below : (j k n : ℕ) → n < 10 ^ suc j → length (decimal_digits k n) ≤ suc j
+unfolding decimal_digits
+decimal_below j zero n h = omega arith
+decimal_below zero (suc k) n h = rw (lt-ltb n 10 h) (omega arith)
+decimal_below (suc j) (suc k) n h = decimal_more k (suc j) n (decimal_below j k (n / 10) (omega arith))
+
+-- a number below a thousand is at most three bytes
+pub decimal_three : (n : ℕ) → n < 1000 → length (decimal_of n) ≤ 3
+unfolding decimal_of
+decimal_three n h = decimal_below 2 20 n h
 
 -- a digit below ten
 digit_low : (n : ℕ) → n < 10 → hex_digit n ≡ 48 + n

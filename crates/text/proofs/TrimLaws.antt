@@ -10,7 +10,7 @@ use Rattle.laws.specs.Choose.{pick}
 use Rattle.laws.specs.Lists.{part, every}
 use Rattle.laws.proofs.Parts.{part_length}
 use Rattle.text.specs.Class.{is_blank}
-use Rattle.text.specs.Runs.{past, without, trim_end, trim}
+use Rattle.text.specs.Runs.{run, past, without, trim_end, trim}
 use Rattle.text.proofs.RunLaws.{past_first, past_within}
 
 -- what is left without the blanks at the end is the front of the text
@@ -27,6 +27,11 @@ trim_end_front (x ∷ xs) = go (every is_blank (x ∷ xs)) (trim_end_front xs)
 -- and no longer than it
 pub trim_end_length : (s : List ℕ) → length (trim_end s) ≤ length s
 trim_end_length s = omega (arith, ap length (trim_end_front s), length-take (length (trim_end s)) s)
+
+-- nor is a text without its outer blanks
+pub trim_length : (s : List ℕ) → length (trim s) ≤ length s
+unfolding trim without
+trim_length s = omega (arith, trim_end_length (drop (run is_blank s) s), length-drop (run is_blank s) s)
 
 -- where the last byte passes a test, it holds at every byte if it does at those before
 every_on : (f : ℕ → Bool) (s : List ℕ) (x : ℕ) → f x ≡ true → every f (s ++ (x ∷ [])) ≡ every f s
