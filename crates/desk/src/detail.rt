@@ -1,7 +1,7 @@
 // What the witness prints besides: the message, the answer buffer past it, and the records in use with their store.
 use crate::records::Desk;
-use page::output::{self, Hex};
-use std::io::{self, Cursor, Write};
+use page::output::Page;
+use std::io::{self, Write};
 use text::part::part_of;
 use view::records;
 use view::sum::checksum;
@@ -13,10 +13,15 @@ pub fn print_detail<W: Write>(
     answer: &[u8],
     length: usize,
 ) -> io::Result<()> {
-    let mut page = Cursor::new([0u8; 32768]);
-    let message = Hex(part_of(answer, 0, length));
-    let past = checksum(part_of(answer, length, answer.len()));
-    write!(page, "  answer {message}\n  past {past:08x}\n")?;
-    records::put_records(&mut page, desk.records, &desk.store)?;
-    output::print(to, &page)
+    let mut page = Page {
+        bytes: &mut [0; 32768],
+        at: 0,
+    };
+    page.text(b"  answer ");
+    page.hex_bytes(part_of(answer, 0, length));
+    page.text(b"\n  past ");
+    page.hex(8, u64::from(checksum(part_of(answer, length, answer.len()))));
+    page.text(b"\n");
+    records::put_records(&mut page, &desk.records, &desk.store);
+    to.write_all(page.front())
 }

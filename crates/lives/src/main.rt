@@ -9,5 +9,6 @@ use life::Life;
 use std::io;
 
 fn main(rt: HostRuntime) -> io::Result<()> {
-    page::listing::run(&mut rt.stdin(), &mut rt.stdout(), &mut Life::none())
+    let room: &mut [u8] = &mut [0; 4096];
+    page::listing::run(&mut rt.stdin(), &mut rt.stdout(), room, &mut Life::none())
 }

@@ -2,7 +2,7 @@
 #![tactic(auto)]
 
 use page::listing::{self, Listing};
-use page::output::Hex;
+use page::output::{Hex, Page};
 use request::names::Name;
 use request::{Head, Request, ToValue};
 use std::io::{self, Write};
@@ -97,16 +97,17 @@ fn put_request<W: Write>(to: &mut W, r: Request<'_>) -> io::Result<()> {
 struct Reads;
 
 impl Listing for Reads {
-    fn put<W: Write>(&mut self, to: &mut W, line: &[u8]) -> io::Result<()> {
+    fn put(&mut self, page: &mut Page<'_>, line: &[u8]) -> io::Result<()> {
         let mut room = [0; 4096];
         match page::input::decode(line, &mut room) {
-            Some(text) => put_request(to, request::reading::read(text))?,
-            None => write!(to, " bad")?,
+            Some(text) => put_request(page, request::reading::read(text))?,
+            None => write!(page, " bad")?,
         }
-        writeln!(to)
+        writeln!(page)
     }
 }
 
 fn main(rt: HostRuntime) -> io::Result<()> {
-    listing::run(&mut rt.stdin(), &mut rt.stdout(), &mut Reads)
+    let room: &mut [u8] = &mut [0; 65536];
+    listing::run(&mut rt.stdin(), &mut rt.stdout(), room, &mut Reads)
 }
