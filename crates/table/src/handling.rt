@@ -1,10 +1,10 @@
 // Handling a request: what is known of it before its record is taken out, and, with that record, the answer and what a success keeps.
-ghost use Rattle.std.specs.Prelude.{◌≡◌, true, false, [], ◌++◌, ◌≤◌, length, drop};
+ghost use Rattle.std.specs.Prelude.{◌≡◌, true, false, [], ◌++◌, ◌≤◌, IfSome, length, drop};
 ghost use Rattle.laws.specs.Choose.{pick};
 ghost use Rattle.request.specs.Names.{To};
 ghost use Rattle.request.specs.To.{to_value};
 ghost use Rattle.request.specs.Head.{head_of, value_named, is_readable};
-ghost use Rattle.response.specs.Outcomes.{is_silent};
+ghost use Rattle.response.specs.Outcomes.{is_silent, is_success};
 ghost use Rattle.publish.specs.Refusals.{outcome_of};
 ghost use Rattle.publish.specs.Refusal.{refusal_in};
 ghost use Rattle.response.specs.Message.{message};
@@ -132,9 +132,10 @@ pub fn finish(
     answer: &mut [u8],
 ) -> Settled
     requires { length request.now ≤ 4096 → b.head ≡ head_of request.now }
-    ensures { (settled_of n own result ≡ handle_out b own n store.old clock number request.now answer.old)
+    ensures leaves { (settled_of n own result ≡ handle_out b own n store.old clock number request.now answer.old)
         × ((store.new ≡ handle_store b own n store.old clock number request.now answer.old)
         × (answer.new ≡ handle_answer b own n store.old clock number request.now answer.old)) }
+    ensures kept { IfSome result.kept (λ k. is_success result.handled.outcome ≡ true) }
 {
     let q = Request {
         text: request,

@@ -12,7 +12,7 @@ finish-settled-requires c = λ h. ap (λ (b : Begun). b.head) c.begin-b.ensures 
 
 pub returns : goal.returns
 returns c =
-    let e = rw (c.record_or_empty-own.ensures, c.begin-b.ensures, c.looked-ls.ensures) at c.finish-settled.ensures in
+    let e = rw (c.record_or_empty-own.ensures, c.begin-b.ensures, c.looked-ls.ensures) at c.finish-settled.ensures.leaves in
     elim c.match-settled.branch [
       | in-Some w ↦ rw (w.records-is, w.put_if.ensures)
           (handled_kept c.args.records.now (λ h. front_long _ _ _ h c.looked-ls.ensures c.looked-ls.type_inv) _ _ _ _ _ e.1.0 e.1.1 (rw w.in-Some.is at e.0))
