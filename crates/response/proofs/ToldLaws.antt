@@ -4,7 +4,7 @@ use mathlib.Core.List.{List, [], ◌∷◌}
 use Prim.Native.Nat.{ℕ}
 use lib.ListN.{get_or}
 use Rattle.std.specs.Prelude.{Result, Ok, Err, ⊤}
-use Rattle.response.specs.Faults.{told}
+use Rattle.response.specs.Faults.{number_of, told}
 use Rattle.response.specs.declared.fault.Fault.{Fault}
 use Rattle.response.specs.declared.fault.Fault.TheVariants.{SmallBuffer, BadSize, LongRequest, LateClock, Unsound, Unreadable, Malformed, AlreadyThere, NoRoom, Unknown, BackInTime}
 
@@ -32,3 +32,7 @@ number_back (Err BackInTime) = refl
 -- so results with one number are one result
 pub told_once : {r r' : Result ⊤ Fault} → told r ≡ told r' → r ≡ r'
 told_once {r} {r'} e = sym (number_back r) ∙ ap (λ (n : ℕ). get_or results n (Ok tt)) e ∙ number_back r'
+
+-- and no fault has the number of none
+pub number_above : (f : Fault) → number_of f ≡ 0 → ⊥
+number_above f e = let one : ◌≡◌ {A = Result ⊤ Fault} (Err f) (Ok tt) = told_once e in cc

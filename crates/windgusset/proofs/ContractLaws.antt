@@ -4,7 +4,7 @@ use mathlib.Core.Path.{◌≡◌, sym, ◌∙◌, ap}
 use mathlib.Core.List.{List}
 use Prim.Native.Nat.{ℕ}
 use native.Mathlib.Nat.{le_refl}
-use lib.ListN.{length, set}
+use lib.ListN.{length, set, replicate}
 use lib.Seq.{set_out}
 use Rattle.std.specs.Prelude.{Option, Some, None, Result, Ok, Err}
 use Rattle.record.specs.Places.{empty_record}
@@ -13,26 +13,37 @@ use Rattle.lent.specs.Sixteen.{record_at}
 use Rattle.lent.specs.Look.{looks_of}
 use Rattle.response.specs.Faults.{number_of}
 use Rattle.response.specs.declared.fault.Fault.{Fault}
+use Rattle.response.proofs.ToldLaws.{number_above}
 use Rattle.table.specs.Looked.{open_result, open_store, emptied_to, AddOut, HandleOut, entry_of, add_out, out_of, add_store, sought_in, begun_of, kept_out, handle_out, handle_store, handle_answer}
 use Rattle.table.specs.Read.{readout_of}
 use Rattle.table.specs.declared.Handled.{Handled}
 use Rattle.table.specs.declared.Kept.{Kept}
 use Rattle.table.specs.declared.looks.Sought.{Sought}
 use Rattle.table.specs.declared.handling.Begun.{Begun}
-use Rattle.table.proofs.LookedLaws.{LooksLong, open_looked, add_looked, handle_looked}
+use Rattle.table.proofs.LookedLaws.{LooksLong, emptied_good, emptied_bad, open_looked, add_looked, handle_looked}
 use Rattle.state.specs.Looked.{state_at, ReadAt}
 use Rattle.state.proofs.LentLaws.{read_looked}
 use Rattle.windgusset.specs.Ensured.{OpenedAs, AddedAs, HandledAs, StateAs, ReadAs}
 
--- the empty record put at all sixteen places, and what `open_store` makes of the store, is `open`
-pub opened_as : (records : List Record) (store : List ℕ) (r : ℕ) (records' : List Record) (store' : List ℕ)
-    → r ≡ open_result (length records) store
-    → records' ≡ emptied_to (open_result (length records) store) (length records) 16 records
-    → store' ≡ open_store (length records) store
-    → OpenedAs records store r records' store'
-unfolding OpenedAs
-opened_as records store r records' store' e-result e-records e-store =
-    rw (e-result, e-records, e-store) (sym (open_looked records store))
+module _ (records : List Record) (store : List ℕ) where
+  -- the empty record put at all sixteen places, and what `open_store` makes of the store, is `open`
+  pub opened_as : (r : ℕ) (records' : List Record) (store' : List ℕ) → r ≡ open_result (length records) store
+      → records' ≡ emptied_to (open_result (length records) store) (length records) 16 records → store' ≡ open_store (length records) store
+      → OpenedAs records store r records' store'
+  unfolding OpenedAs
+  opened_as r records' store' e-result e-records e-store = rw (e-result, e-records, e-store) (sym (open_looked records store))
+
+  -- where the sizes are good, that is every record filled with the empty one
+  pub opened_ok : (records' : List Record) (store' : List ℕ) {e : Record} → 0 ≡ open_result (length records) store → e ≡ empty_record
+      → records' ≡ replicate (length records) e → store' ≡ open_store (length records) store → OpenedAs records store 0 records' store'
+  opened_ok records' store' good is filled after =
+      opened_as 0 records' store' good (filled ∙ ap (replicate (length records)) is ∙ sym (emptied_good records store (sym good))) after
+
+  -- and where they are not, the records as they were
+  pub opened_err : (f : Fault) (store' : List ℕ) → number_of f ≡ open_result (length records) store → store' ≡ open_store (length records) store
+      → OpenedAs records store (number_of f) records store'
+  opened_err f store' bad after =
+      opened_as (number_of f) records store' bad (sym (emptied_bad records store (λ none. number_above f (bad ∙ none)))) after
 
 module _ (records : List Record) (long : LooksLong records) where
   -- what the core makes of the looks, with the record kept put at its place, is `add`
