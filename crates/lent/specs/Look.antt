@@ -8,12 +8,16 @@ use Rattle.record.specs.Places.{is_in_use}
 use Rattle.record.specs.Address.{same_address}
 use Rattle.record.specs.Sound.{is_sound}
 use Rattle.record.specs.declared.Record.{Record}
-use Rattle.lent.specs.Sixteen.{first_sixteen}
+use Rattle.lent.specs.Sixteen.{record_at, first_sixteen}
 use Rattle.lent.specs.declared.look.Look.{Look}
 
 -- the look at a record
 unfoldable pub look_of : Record → Look
 look_of r = record { used = is_in_use r; sound = is_sound r; address = r.address }
+
+-- the look at record i; past the end, at the all-zero record
+unfoldable pub look_at : List Record → ℕ → Look
+look_at xs i = look_of (record_at xs i)
 
 -- the looks at the first sixteen records; past the end, at the all-zero record
 unfoldable pub looks_of : List Record → List Look

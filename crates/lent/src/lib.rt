@@ -6,7 +6,7 @@ pub mod look;
 ghost use Rattle.std.specs.Prelude.{◌≡◌, set};
 ghost use Rattle.record.specs.Places.{empty_record};
 ghost use Rattle.lent.specs.Sixteen.{record_at};
-ghost use Rattle.lent.specs.Look.{looks_of};
+ghost use Rattle.lent.specs.Look.{look_at, looks_of};
 
 use look::Look;
 use record::Record;
@@ -34,6 +34,17 @@ pub fn record_or_empty(t: &[Record], i: usize) -> Record
     match t.get(i) {
         Some(r) => *r,
         None => empty(),
+    }
+}
+
+// The look at record i; at the all-zero record past the end.
+#[tactic(auto, unfolding(crate::specs::Look::look_at, crate::specs::Sixteen::record_at))]
+pub fn look_or_none(t: &[Record], i: usize) -> Look
+    ensures { result ≡ look_at t.now i }
+{
+    match t.get(i) {
+        Some(r) => look::look_of(r),
+        None => look::no_look(),
     }
 }
 

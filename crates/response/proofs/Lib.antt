@@ -1,4 +1,5 @@
 pub mod FitsLaws
 pub mod MessageLaws
 pub mod OnceLaws
+pub mod ToldLaws
 pub mod ViaLaws

@@ -5,6 +5,7 @@ use mathlib.Core.Bool.{Bool, true, false, not}
 use mathlib.Core.List.{List, [], ◌∷◌, ◌++◌, map}
 use Prim.Native.Nat.{ℕ, zero, suc, ◌≤◌, zero-le}
 use native.Mathlib.Nat.{le_refl, not-suc-le-zero, le_of_suc-le-suc}
+use native.Mathlib.Omega.{arith}
 use lib.Dec.{eqb, ltb}
 use lib.ListN.{length, take, drop, set, replicate}
 use lib.Seq.{set_out}
@@ -92,6 +93,27 @@ open_looked rs store = go (is_bad_size (length rs) (length store)) refl
     go : (b : Bool) → is_bad_size (length rs) (length store) ≡ b → opened (lent_table rs store) ≡ put_opened rs store
     go true e = rw (e, emptied_none rs)
     go false e = rw (e, emptied_all rs (few_records (length rs) (length store) e))
+
+-- where opening succeeds, the empty record put at the sixteen places leaves no other
+pub emptied_good : (rs : List Record) (store : List ℕ) → open_result (length rs) store ≡ 0
+    → emptied_to (open_result (length rs) store) (length rs) 16 rs ≡ replicate (length rs) empty_record
+unfolding open_result
+emptied_good rs store = go (is_bad_size (length rs) (length store)) refl
+  where
+    go : (b : Bool) → is_bad_size (length rs) (length store) ≡ b → ◌≡◌ {A = ℕ} (pick b 2 0) 0
+        → emptied_to (pick b 2 0) (length rs) 16 rs ≡ replicate (length rs) empty_record
+    go true e h = absurd (omega arith)
+    go false e h = emptied_all rs (few_records (length rs) (length store) e)
+
+-- and where it is refused, it is put nowhere
+pub emptied_bad : (rs : List Record) (store : List ℕ) → (open_result (length rs) store ≡ 0 → ⊥)
+    → emptied_to (open_result (length rs) store) (length rs) 16 rs ≡ rs
+unfolding open_result
+emptied_bad rs store = go (is_bad_size (length rs) (length store))
+  where
+    go : (b : Bool) → (◌≡◌ {A = ℕ} (pick b 2 0) 0 → ⊥) → emptied_to (pick b 2 0) (length rs) 16 rs ≡ rs
+    go true h = emptied_none rs
+    go false h = absurd (h refl)
 
 -- the looks at the lent records have 64 bytes each, where they are all looked at
 abbrev pub LooksLong : List Record → Type 0

@@ -10,7 +10,6 @@ use state::shown::Readout;
 use table::{Handled, State};
 
 // All records emptied and the store zeroed, where their sizes allow it; where not, nothing is put.
-#[tactic(auto, unfolding(crate::specs::Ensured::OpenedAs, table::specs::Open::opened, table::specs::Open::open_refusals, table::specs::Open::emptied, table::specs::Table::bad_size, table::specs::Looked::open_result, table::specs::Looked::open_store, laws::specs::First::first_of))]
 pub fn open(records: &mut [Record], store: &mut [u8]) -> Result<(), Fault>
     ensures { OpenedAs records.old store.old
         (told result) records.new store.new }
