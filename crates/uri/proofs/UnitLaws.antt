@@ -1,12 +1,14 @@
--- The unit at a position, and the normal text by its first unit, as the iterator takes it.
-use mathlib.Core.Path.{◌≡◌, refl, ◌∙◌, ap}
+-- The unit at a position, and the normal text by what stands first, as the iterator takes it.
+use mathlib.Core.Path.{◌≡◌, refl, sym, ◌∙◌, ap}
 use mathlib.Core.Bool.{Bool, true, false, ◌&&◌}
 use mathlib.Core.List.{List, [], ◌∷◌}
 use mathlib.Core.Logic.{◌⊎◌, inl, inr, ⊎_elim}
 use Prim.Native.Nat.{ℕ, ◌+◌, ◌<◌, ◌≤◌}
+use native.Mathlib.Nat.{add-zero}
 use native.Mathlib.Omega.{arith}
 use lib.Dec.{eqb, ltb}
-use lib.ListN.{length, get_or, drop}
+use lib.ListN.{length, get_or, drop, length-drop}
+use lib.Seq.{drop-drop, get_or-drop}
 use borrow.Author.Tests.{eq-eqb, ne_eqb, eqb-true, eqb-false, lt-ltb, le-ltb, ltb-true, ltb-false}
 use Rattle.laws.specs.Choose.{pick}
 use Rattle.laws.specs.Lists.{byte_at, empty}
@@ -84,8 +86,30 @@ module _ (s : List ℕ) (i : ℕ) where
       go true h false e = inr (λ q. absurd (eqb-false (get_or s i 0) 37 e q))
       go false h b e = inr (λ q. ltb-false (i + 2) (length s) h)
 
+  -- what stands first behind the position is what stands there
+  first_there : get_or (drop i s) 0 0 ≡ get_or s i 0
+  first_there = get_or-drop i s 0 0 ∙ rw add-zero
+
+  -- from there on: an escape
+  escape_on : i + 2 < length s → get_or s i 0 ≡ 37
+      → normal (drop i s) ≡ escaped_byte (get_or s (i + 1) 0) (get_or s (i + 2) 0) ∷ normal (drop (i + 3) s)
+  escape_on h e =
+      normal_escape (drop i s) (omega (arith, length-drop i s)) (first_there ∙ e)
+      ∙ rw (get_or-drop i s 1 0, get_or-drop i s 2 0, drop-drop 3 i s)
+
+  -- a byte that begins none
+  bare_on : i < length s → (get_or s i 0 ≡ 37 → length s ≤ i + 2) → normal (drop i s) ≡ get_or s i 0 ∷ normal (drop (i + 1) s)
+  bare_on h n =
+      normal_bare (drop i s) (omega (arith, length-drop i s)) (λ k q. omega (arith, length-drop i s, n (sym first_there ∙ q)))
+      ∙ rw (first_there, drop-drop 1 i s)
+
   module _ (h : i < length s) (u : Unit) (e : u ≡ unit_at s i) where
-    -- it begins behind the position
+    -- the normal text from a position on is the unit there, and the normal text behind it
+    pub unit_step : normal (drop i s) ≡ u.value ∷ normal (drop u.next s)
+    unit_step =
+        ⊎_elim (λ w. rw (e ∙ unit_escape w.0 w.1) (escape_on w.0 w.1)) (λ n. rw (e ∙ unit_bare h n) (bare_on h n)) which
+
+    -- and that begins behind the position
     pub unit_after : i < u.next
     unit_after =
         ⊎_elim (λ w. rw (e ∙ unit_escape w.0 w.1) (omega arith)) (λ n. rw (e ∙ unit_bare h n) (omega arith)) which
@@ -103,9 +127,3 @@ module _ (s : List ℕ) (i : ℕ) where
   pub hex_past : length s ≤ i → is_hex (byte_at s i) ≡ false
   unfolding all_uri
   hex_past h = rw (byte_past s i h)
-
--- the normal text of a text is its first unit, and the normal text behind it
-pub unit_first : (s : List ℕ) → 0 < length s → (u : Unit) → u ≡ unit_at s 0 → normal s ≡ u.value ∷ normal (drop u.next s)
-unit_first s h u e =
-    ⊎_elim (λ w. rw (e ∙ unit_escape s 0 w.0 w.1) (normal_escape s (omega (arith, w.0)) w.1)) (λ n. rw (e ∙ unit_bare s 0 h n) (normal_bare s h (λ k q. omega (arith, n q))))
-    (which s 0)

@@ -32,6 +32,7 @@ impl<'a> Iterator for Units<'a> {
 
     ghost remaining = { item_count units_left };
 
+    // The unit that stands first. What is left begins where that says.
     fn next(&mut self) -> Option<u16>
         ensures steps { YieldsFirst units_left self.old result self.new }
         ensures goes { MakesProgress (λ _. ⊤) (item_count units_left) self.old result self.new }
