@@ -7,7 +7,7 @@ use native.Mathlib.Omega.{arith}
 use lib.Dec.{eqb, ltb, leb}
 use lib.ListN.{length}
 use borrow.Author.Tests.{eqb-true, leb-true, eq-eqb, ne_eqb}
-use Rattle.std.proofs.Common.{Some, None}
+use Rattle.std.proofs.Common.{Some, None, Ok, Err}
 use Rattle.std.specs.Bool.{then_some}
 use Rattle.laws.specs.Choose.{pick}
 use Rattle.laws.specs.Lists.{byte_at, part, any, every, same, empty}
@@ -315,11 +315,25 @@ module _ {A : Type 0} (y : A) where
   told_fails true e = cc
   told_fails false e = refl
 
+-- what is read of a URI, and of a text that is none
+module _ {A : Type 0} (y : A) where
+  read_holds : (b : Bool) {x : A} → Ok x ≡ pick b (Ok y) (Err y) → b ≡ true
+  read_holds true e = refl
+  read_holds false e = cc
+
+  read_same : (b : Bool) {x : A} → Ok x ≡ pick b (Ok y) (Err y) → x ≡ y
+  read_same true e = cc
+  read_same false e = cc
+
+  read_fails : (b : Bool) {x : A} → Err x ≡ pick b (Ok y) (Err y) → b ≡ false
+  read_fails true e = cc
+  read_fails false e = refl
+
 -- the same, with what was read of both
-pub same_asked : (s a : List ℕ) {e f : Ends} → Some f ≡ then_some (is_table_address a) (ends_of a) → Some e ≡ reading_of s
+pub same_asked : (s a : List ℕ) {e f : Ends} → Some f ≡ then_some (is_table_address a) (ends_of a) → Ok e ≡ reading_of s
     → same_address s a ≡ (same_written (parts_of s e) (parts_of a f) && is_open (parts_of s e))
 unfolding reading_of reaches
-same_asked s a h k = rw (told_same _ _ h, told_same _ _ k) (same_short s a (told_holds _ _ h) (told_holds _ _ k))
+same_asked s a h k = rw (told_same _ _ h, read_same _ _ k) (same_short s a (told_holds _ _ h) (read_holds _ _ k))
 
 -- what is no URI is no table address's
 pub same_none : (s a : List ℕ) → is_uri s ≡ false → same_address s a ≡ false
@@ -330,9 +344,9 @@ same_none s a e = go (same_address s a) refl
     go false h = h
 
 -- the same, with what was read of it
-pub same_unread : (s a : List ℕ) → None ≡ reading_of s → same_address s a ≡ false
+pub same_unread : (s a : List ℕ) (e : Ends) → Err e ≡ reading_of s → same_address s a ≡ false
 unfolding reading_of
-same_unread s a e = same_none s a (told_fails _ _ e)
+same_unread s a e h = same_none s a (read_fails _ _ h)
 
 -- nor is any text what is no table address
 pub same_not : (s a : List ℕ) → None ≡ then_some (is_table_address a) (ends_of a) → same_address s a ≡ false

@@ -1,8 +1,11 @@
--- The laws of reading a URI: its ends one behind the other.
+-- The laws of reading a URI: its ends one behind the other, and what is asked of a table address.
 use mathlib.Core.Path.{◌≡◌}
+use mathlib.Core.Bool.{false}
 use mathlib.Core.List.{List}
-use Prim.Native.Nat.{ℕ, ◌+◌}
+use Prim.Native.Nat.{ℕ, ◌+◌, ◌<◌}
 use lib.Dec.{eqb}
+use lib.ListN.{length}
+use borrow.Author.Tests.{lt-leb}
 use Rattle.laws.specs.Choose.{pick}
 use Rattle.laws.specs.Lists.{byte_at, part}
 use Rattle.text.specs.Runs.{past}
@@ -11,6 +14,7 @@ use Rattle.text.specs.Class.{is_digit}
 use Rattle.uri.specs.Host.{is_host}
 use Rattle.uri.specs.Read.{scheme_end, behind_colon, parameters_end, user_end, password_end, port_end, ends_of}
 use Rattle.uri.specs.Parts.{host_of}
+use Rattle.uri.specs.Address.{is_table_address}
 use Rattle.uri.specs.declared.host.Host.{Host}
 use Rattle.uri.specs.declared.reading.Ends.{Ends}
 
@@ -25,3 +29,8 @@ pub ends_are : (s : List ℕ) {c u w b p q : ℕ} {h : Host}
     → (found c u w b h.end p q ≡ ends_of s) × (h.fits ≡ is_host (part s b h.end))
 unfolding ends_of user_end password_end port_end host_of
 ends_are s ec eu ew eb eh ep eq = (rw (eq, ep, eh, eb, ew, eu, ec), rw eh)
+
+-- a text of no bytes is no table address
+pub address_none : (a : List ℕ) → length a < 1 → is_table_address a ≡ false
+unfolding is_table_address
+address_none a h = rw (lt-leb 1 (length a) h)

@@ -1,6 +1,6 @@
 -- What the code holds of a URI while it reads it.
-use Rattle.std.specs.Prelude.{ℕ, Bool, List, Option}
-use Rattle.std.specs.Bool.{then_some}
+use Rattle.std.specs.Prelude.{ℕ, Bool, List, Result, Ok, Err}
+use Rattle.laws.specs.Choose.{pick}
 use Rattle.laws.specs.Lists.{part}
 use Rattle.uri.specs.Escapes.{folded}
 use Rattle.uri.specs.Host.{is_label, is_top_label, is_host}
@@ -26,6 +26,6 @@ label_of p = record { fits = is_label p; top = is_top_label p }
 unfoldable pub host_of : List ℕ → ℕ → Host
 host_of s at = record { end = host_end s at; fits = is_host (part s at (host_end s at)) }
 
--- the ends of a text's parts; nothing where it is no URI
-unfoldable pub reading_of : List ℕ → Option Ends
-reading_of s = then_some (is_uri s) (ends_of s)
+-- the ends of a text's parts, as those of a URI or as those of a text that is none
+unfoldable pub reading_of : List ℕ → Result Ends Ends
+reading_of s = pick (is_uri s) (Ok (ends_of s)) (Err (ends_of s))

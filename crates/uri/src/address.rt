@@ -25,7 +25,7 @@ fn tabled(a: &[u8]) -> Option<Ends>
     if a.is_empty() || 64 < a.len() {
         return None;
     }
-    reading::read(a).filter(|e| e.port == a.len())
+    reading::read(a).ok().filter(|e| e.port == a.len())
 }
 
 // Whether a text is a table address.
@@ -109,7 +109,7 @@ pub fn is_same(s: &[u8], a: &[u8]) -> bool
     let Some(f) = tabled(a) else {
         return false;
     };
-    let Some(e) = reading::read(s) else {
+    let Ok(e) = reading::read(s) else {
         return false;
     };
     let uri = Split { text: s, ends: e };

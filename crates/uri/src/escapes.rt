@@ -1,15 +1,22 @@
 // Texts with escapes: a % and two hex digits. They are read in place.
-ghost use Rattle.std.specs.Prelude.{◌≡◌, ◌&&◌, ◌+◌, ◌<◌, length};
-ghost use Rattle.std.specs.Iterator.{YieldsFirst, item_count};
+ghost use Rattle.std.specs.Prelude.{◌≡◌, ◌&&◌, ◌+◌, ◌<◌, length, drop, IfSome, ⊤};
+ghost use Rattle.std.specs.Iterator.{MakesProgress, YieldsFirst, item_count};
 ghost use Rattle.laws.specs.Lists.{byte_at, same};
 ghost use Rattle.text.specs.Digits.{hex_value};
 ghost use Rattle.uri.specs.Classes.{is_hex};
 ghost use Rattle.uri.specs.Escapes.{escapes_whole, escaped_byte, normal};
-ghost use Rattle.uri.specs.Units.{units_left};
+ghost use Rattle.uri.specs.Units.{unit_at, units_left};
 ghost use Rattle.uri.specs.Key.{weighed};
 
 use crate::classes::Class;
 use text::class::ByteSet;
+
+// What stands at a position for one byte of the normal text, and where the next begins.
+#[derive(Clone, Copy)]
+pub struct Unit {
+    pub value: u16,
+    pub next: usize,
+}
 
 // The normal text, number by number: an escape is what it stands for, any other byte is itself. A reserved escape is told from its byte by
 // 256 more and not by a kind: the definitions (normal, escaped_byte) compare numbers.
@@ -25,18 +32,18 @@ impl<'a> Iterator for Units<'a> {
 
     ghost remaining = { item_count units_left };
 
-    fn next(&mut self) -> Option<u16> {
-        match self.rest {
-            [] => None,
-            [b'%', y, z, rest @ ..] => {
-                self.rest = rest;
-                Some(escaped_byte(*y, *z))
-            }
-            [b, rest @ ..] => {
-                self.rest = rest;
-                Some(u16::from(*b))
-            }
+    // The unit that stands first. What is left begins where that says.
+    fn next(&mut self) -> Option<u16>
+        ensures steps { YieldsFirst units_left self.old result self.new }
+        ensures goes { MakesProgress (λ _. ⊤) (item_count units_left) self.old result self.new }
+        ensures left { IfSome result (λ _. self.new.rest.now ≡ drop (unit_at self.old.rest.now 0).next self.old.rest.now) }
+    {
+        if self.rest.is_empty() {
+            return None;
         }
+        let u = unit_at(self.rest, 0);
+        self.rest = &self.rest[u.next..];
+        Some(u.value)
     }
 }
 
@@ -89,6 +96,24 @@ fn escaped_byte(y: u8, z: u8) -> u16
     match u8::try_from(b) {
         Ok(byte) if Class::Reserved.has(byte) => 256 + b,
         _ => b,
+    }
+}
+
+// The unit at a position.
+#[tactic(auto, using(crate::proofs::UnitLaws::unit_bare, crate::proofs::UnitLaws::unit_escape))]
+pub fn unit_at(s: &[u8], i: usize) -> Unit
+    requires { i < length s.now }
+    ensures { result ≡ unit_at s.now i }
+{
+    if s[i] == b'%' && 2 < s.len() - i {
+        return Unit {
+            value: escaped_byte(s[i + 1], s[i + 2]),
+            next: i + 3,
+        };
+    }
+    Unit {
+        value: u16::from(s[i]),
+        next: i + 1,
     }
 }
 

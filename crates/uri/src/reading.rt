@@ -177,13 +177,16 @@ pub fn ends_of(s: &[u8]) -> Ends
     found_in(s).0
 }
 
-// Reads a text: where its parts end; nothing where it is no URI.
+// Reads a text: where its parts end, be it a URI (`Ok`) or not (`Err`).
 #[tactic(auto, unfolding(crate::specs::Parts::reading_of, crate::specs::Read::is_uri))]
-pub fn read(s: &[u8]) -> Option<Ends>
+pub fn read(s: &[u8]) -> Result<Ends, Ends>
     ensures { result ≡ reading_of s.now }
 {
     let (ends, host) = found_in(s);
-    Split { text: s, ends }.is_built(host).then_some(ends)
+    if (Split { text: s, ends }).is_built(host) {
+        return Ok(ends);
+    }
+    Err(ends)
 }
 
 // Whether a text is a SIP or SIPS URI.
@@ -191,5 +194,5 @@ pub fn read(s: &[u8]) -> Option<Ends>
 pub fn is_uri(s: &[u8]) -> bool
     ensures { result ≡ is_uri s.now }
 {
-    read(s).is_some()
+    read(s).is_ok()
 }

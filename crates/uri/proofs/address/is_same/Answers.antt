@@ -5,8 +5,8 @@ use Rattle.uri.proofs.address.is_same.Goals as goal
 
 pub returns-then-same_written : goal.returns-then-same_written
 returns-then-same_written c =
-    sym (same_asked _ _ c.in-Some.ensures c.in-Some-read.ensures ∙ rw (← c.same_written.ensures, c.if-same_written.true) (sym c.is_open.ensures))
+    sym (same_asked _ _ c.in-Some.ensures c.in-Ok.ensures ∙ rw (← c.same_written.ensures, c.if-same_written.true) (sym c.is_open.ensures))
 
 pub returns-else-same_written : goal.returns-else-same_written
 returns-else-same_written c =
-    sym (same_asked _ _ c.in-Some.ensures c.in-Some-read.ensures ∙ rw (← c.same_written.ensures, c.if-same_written.false))
+    sym (same_asked _ _ c.in-Some.ensures c.in-Ok.ensures ∙ rw (← c.same_written.ensures, c.if-same_written.false))

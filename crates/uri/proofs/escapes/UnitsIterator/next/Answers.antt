@@ -1,33 +1,30 @@
--- What stands first is an escape, or a byte that stands for itself.
-use Rattle.std.proofs.Common.{◌≡◌, ◌∷◌, ◌≤◌, length, drop, get_or, ap, arith, rules}
+-- The unit that stands first is given, and what is left begins behind it.
+use Rattle.std.proofs.Common.{◌<◌, length, ap, arith, rules}
 use Rattle.std.proofs.lemmas.List.{take_rest}
-use Rattle.uri.specs.Escapes.{normal}
-use Rattle.uri.specs.Units.{units_left}
-use Rattle.uri.proofs.UnitLaws.{normal_none, normal_escape, normal_bare}
-use Rattle.uri.proofs.escapes.UnitsIterator.next.Goals.{After-escaped_byte, After-from, then-this-lt3, else-this-lt3+in_default-1}
+use Rattle.uri.proofs.UnitLaws.{normal_none, unit_step, unit_within}
 use Rattle.uri.proofs.escapes.UnitsIterator.next.Goals as goal
 
-pub returns-in-empty-clause-steps : goal.returns-in-empty-clause-steps
-returns-in-empty-clause-steps c = (normal_none _ c.in-empty.len_below, normal_none _ c.in-empty.len_below)
+pub returns-then-is_empty-clause-steps : goal.returns-then-is_empty-clause-steps
+returns-then-is_empty-clause-steps c =
+    let none : length c.args.self.now.rest.now < 1 = search rules in
+    (normal_none _ none, normal_none _ none)
 
-escape : (c : After-escaped_byte) → units_left c.args.self.now ≡ c.escaped_byte.result ∷ normal (drop 3 c.args.self.now.rest.now)
-escape c =
-    let first : get_or c.args.self.now.rest.now 0 0 ≡ 37 = omega arith in
-    rw c.escaped_byte.ensures (normal_escape _ c.in-37.len_at_least first)
+pub slice_bounds-self-count : goal.slice_bounds-self-count
+slice_bounds-self-count c =
+    let some : 0 < length c.args.self.now.rest.now = search rules in
+    omega (arith, unit_within _ 0 some _ c.unit_at-u.ensures)
 
-pub returns-in-37-clause-steps : goal.returns-in-37-clause-steps
-returns-in-37-clause-steps c = rw take_rest (escape c)
+pub slice_bounds-self-start : goal.slice_bounds-self-start
+slice_bounds-self-start c =
+    let some : 0 < length c.args.self.now.rest.now = search rules in
+    omega (arith, unit_within _ 0 some _ c.unit_at-u.ensures)
 
-pub returns-in-37-clause-goes : goal.returns-in-37-clause-goes
-returns-in-37-clause-goes c = record { on = λ _. (tt, tt, rw take_rest (omega (arith, ap length (escape c)))); keeps = tt; rests = λ _. tt }
+pub returns-clause-steps : goal.returns-clause-steps
+returns-clause-steps c =
+    let some : 0 < length c.args.self.now.rest.now = search rules in
+    rw take_rest (unit_step _ 0 some _ c.unit_at-u.ensures)
 
-bare : (c : After-from) → units_left c.args.self.now ≡ c.from.result ∷ normal (drop 1 c.args.self.now.rest.now)
-bare c =
-    let some : 1 ≤ length c.args.self.now.rest.now = search rules in
-    rw c.from.ensures (normal_bare _ some (λ h e. elim c.in-len1-up-1.branch [ then-this-lt3 w ↦ search rules | else-this-lt3+in_default-1 w ↦ search rules ]))
-
-pub returns-in-len1-up-clause-steps : goal.returns-in-len1-up-clause-steps
-returns-in-len1-up-clause-steps c = rw take_rest (bare c)
-
-pub returns-in-len1-up-clause-goes : goal.returns-in-len1-up-clause-goes
-returns-in-len1-up-clause-goes c = record { on = λ _. (tt, tt, rw take_rest (omega (arith, ap length (bare c)))); keeps = tt; rests = λ _. tt }
+pub returns-clause-goes : goal.returns-clause-goes
+returns-clause-goes c =
+    let some : 0 < length c.args.self.now.rest.now = search rules in
+    record { on = λ _. (tt, tt, rw take_rest (omega (arith, ap length (unit_step _ 0 some _ c.unit_at-u.ensures)))); keeps = tt; rests = λ _. tt }
