@@ -1,6 +1,6 @@
 // What the witness prints besides: the message, the answer buffer past it, and the records in use with their store.
-use crate::records::Desk;
 use page::output::{self, Hex};
+use record::Record;
 use std::io::{self, Cursor, Write};
 use text::part::part_of;
 use view::records;
@@ -9,7 +9,8 @@ use view::sum::checksum;
 // Prints the message of so many bytes, the sum of the answer buffer's bytes past it, and what is shown of the records.
 pub fn print_detail<W: Write>(
     to: &mut W,
-    desk: &Desk,
+    rs: &[Record; 16],
+    store: &[u8],
     answer: &[u8],
     length: usize,
 ) -> io::Result<()> {
@@ -17,6 +18,6 @@ pub fn print_detail<W: Write>(
     let message = Hex(part_of(answer, 0, length));
     let past = checksum(part_of(answer, length, answer.len()));
     write!(page, "  answer {message}\n  past {past:08x}\n")?;
-    records::put_records(&mut page, desk.records, &desk.store)?;
+    records::put_records(&mut page, *rs, store)?;
     output::print(to, &page)
 }
