@@ -33,7 +33,6 @@ fn add_frame(desk: &mut Desk<'_>, address: &[u8], start: u32, spent: u32) -> Ste
 }
 
 // A frame that handles, with To number 1.
-#[tactic(auto, unfolding(crate::specs::Left::LeftAs, crate::specs::Left::left_by, windgusset::specs::Ensured::HandledAs))]
 fn handle_frame(desk: &mut Desk<'_>, clock: u64, request: &[u8], answer: &mut [u8]) -> Step
     ensures leaves { LeftAs (seen desk.old) answer.old (handles (record { clock = clock; number = 1; request = request.now }))
         result (seen desk.new) answer.new }
@@ -47,7 +46,7 @@ fn handle_frame(desk: &mut Desk<'_>, clock: u64, request: &[u8], answer: &mut [u
 }
 
 // A frame. Nothing changes where it is not so built.
-#[tactic(auto, using(crate::proofs::LeftLaws::left_bad), unfolding(frames::specs::Asked::frame_with))]
+#[tactic(auto, unfolding(frames::specs::Asked::frame_with))]
 fn frame_step(desk: &mut Desk<'_>, answer: &mut [u8], f: &[u8]) -> Step
     ensures leaves { LeftAs (seen desk.old) answer.old (frame_of f.now) result (seen desk.new) answer.new }
     ensures same_store { desk.new.store.ghost_name ≡ desk.old.store.ghost_name }

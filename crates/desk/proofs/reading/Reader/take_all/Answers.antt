@@ -4,6 +4,7 @@ use mathlib.Core.Path.{refl, ◌∙◌}
 use native.Mathlib.Omega.{arith}
 use Rattle.page.proofs.LineLaws.{piece_on_lem}
 use Rattle.desk.specs.Reading.{read_on}
+use Rattle.desk.specs.ReadTo.{reading_of}
 use Rattle.desk.proofs.ReadToLaws.{piece_taken, chunk_read}
 use Rattle.desk.proofs.ErrLaws.{on_err, chunk_front, chunk_stopped, store_stopped}
 use Rattle.desk.proofs.reading.Reader.take_all.Goals as goal
@@ -20,7 +21,7 @@ loop-at-preserved g c =
     let l = c.loop-at in
     let on = piece_on_lem _ _ c.piece_at-piece.ensures c.loop-at-test.true in
     let after = c.take.ensures.after in (
-      piece_taken _ _ _ l.invariant.0 c.piece_at-piece.ensures c.part_of-bs.ensures after,
+      piece_taken _ _ _ l.invariant.0 {v = reading_of c.take.new.self c.take.new.desk} c.piece_at-piece.ensures c.part_of-bs.ensures after,
       after ∙ chunk_front _ _ _ l.invariant.1 c.piece_at-piece.ensures c.part_of-bs.ensures (omega (arith, on)),
       c.take.ensures.same_store ∙ l.invariant.2,
     )
@@ -34,7 +35,7 @@ returns-in_err-take-clause-stops g c =
     let on = piece_on_lem _ _ c.piece_at-piece.ensures c.loop-at-test.true in
     on_err _
     (chunk_stopped _ _ _ l.invariant.1 c.piece_at-piece.ensures c.part_of-bs.ensures (omega (arith, on))
-    c.in_err-take.ensures.err c.take.ensures.after)
+    {v = reading_of c.take.new.self c.take.new.desk} c.in_err-take.ensures.err c.take.ensures.after)
 
 pub returns-in_err-take-clause-err : goal.returns-in_err-take-clause-err
 returns-in_err-take-clause-err g c =
@@ -43,4 +44,4 @@ returns-in_err-take-clause-err g c =
     on_err _
     (store_stopped
     (chunk_stopped _ _ _ l.invariant.1 c.piece_at-piece.ensures c.part_of-bs.ensures (omega (arith, on))
-    c.in_err-take.ensures.err c.take.ensures.after))
+    {v = reading_of c.take.new.self c.take.new.desk} c.in_err-take.ensures.err c.take.ensures.after))
