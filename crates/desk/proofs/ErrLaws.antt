@@ -1,4 +1,4 @@
--- What the program leaves where it cannot print: the store behind the line, or behind the lines of a chunk that were run.
+-- What the program leaves where it cannot print: what is read behind the lines of a chunk that were run.
 use mathlib.Core.Path.{◌≡◌, sym, ◌∙◌, ap}
 use mathlib.Core.Bool.{true}
 use mathlib.Core.List.{List}
@@ -14,7 +14,7 @@ use Rattle.laws.specs.Lists.{part}
 use Rattle.page.specs.Lines.{piece_at}
 use Rattle.page.specs.declared.lines.Piece.{Piece}
 use Rattle.desk.specs.Reading.{Reading, read_on}
-use Rattle.desk.specs.ReadTo.{RunIn, piece_on}
+use Rattle.desk.specs.ReadTo.{RunIn, RunUpTo, piece_on}
 use Rattle.desk.proofs.ReadingLaws.{read_append, piece_ended, piece_front}
 
 -- what holds whatever came
@@ -33,17 +33,17 @@ module _ (s : Reading) (c : List ℕ) (at : ℕ) {u : Reading} (inv : u ≡ read
       ∙ ap (λ (bs : List ℕ). read_on s bs) (sym (take-add at (q.next - at) c))
       ∙ ap (λ (m : ℕ). read_on s (take m c)) n
 
-  -- the store behind a line that it ends
+  -- what is read behind a line that it ends
   pub chunk_stopped : {q : Piece} {bs : List ℕ} → q ≡ piece_at c at → bs ≡ part c at q.end → at ≤ q.next
-      → {store : List ℕ}
-      → (ltb q.end q.next ≡ true) × (store ≡ (piece_on u bs (ltb q.end q.next)).table.store)
-      → RunIn s c store
-  chunk_stopped {q} is e h w =
-      let ended = piece_ended s c at is w.0 in
+      → {v : Reading} → ltb q.end q.next ≡ true → v ≡ piece_on u bs (ltb q.end q.next) → RunUpTo s c v
+  chunk_stopped {q} is e h t w =
+      let ended = piece_ended s c at is t in
       record {
         at = q.end;
         ends = ended.0;
-        runs =
-            w.1 ∙ ap (λ (r : Reading). r.table.store) (chunk_front is e h)
-            ∙ ap (λ (n : ℕ). (read_on s (take n c)).table.store) ended.1;
+        reads = w ∙ chunk_front is e h ∙ ap (λ (n : ℕ). read_on s (take n c)) ended.1;
       }
+
+-- the store behind it
+pub store_stopped : {s : Reading} {c : List ℕ} {v : Reading} → RunUpTo s c v → RunIn s c v.table.store
+store_stopped w = record { at = w.at; ends = w.ends; runs = ap (λ (r : Reading). r.table.store) w.reads }

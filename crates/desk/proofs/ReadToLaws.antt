@@ -7,6 +7,8 @@ use native.Mathlib.Omega.{arith}
 use lib.Dec.{ltb}
 use lib.ListN.{length, take, drop, length-append, drop_of_length-le}
 use lib.Seq.{length-take-le, take_at}
+use Rattle.std.specs.declared.option.Option.{Option}
+use Rattle.std.specs.Io.KnownBytes.{Consumes}
 use Rattle.laws.specs.Lists.{part, put_at}
 use Rattle.laws.specs.Wrote.{Wrote}
 use Rattle.laws.proofs.Parts.{part_length, part_none}
@@ -17,7 +19,7 @@ use Rattle.page.specs.declared.lines.Piece.{Piece}
 use Rattle.desk.specs.Turned.{table_behind}
 use Rattle.desk.specs.Reading.{Reading, begun, hold_on, next_number, line_on, read_on}
 use Rattle.desk.specs.ReadTo.{piece_on}
-use Rattle.desk.proofs.ReadingLaws.{piece_read}
+use Rattle.desk.proofs.ReadingLaws.{read_append, piece_read}
 
 -- an opened table, with nothing held
 pub read_begun : (line : List ℕ) (t : Table) → t ≡ open_table 16 → ◌≡◌ {A = Reading} (record { held = part line 0 0; nth = 1; table = t }) begun
@@ -52,6 +54,15 @@ pub read_line : (line : List ℕ) (held nth : ℕ) (t : Table) {s : Reading} {bs
     → ◌≡◌ {A = Reading} (record { held = part line 0 0; nth = n; table = t' }) (line_on s)
 unfolding line_on
 read_line line held nth t e i w k = rw (part_none line 0 0 (omega arith), ← e, k, w, i)
+
+-- a chunk read behind some bytes
+pub chunk_behind : (s : Reading) (bs c : List ℕ) {u v : Reading} → u ≡ read_on s bs → v ≡ read_on u c → v ≡ read_on s (bs ++ c)
+chunk_behind s bs c w e = e ∙ ap (λ (x : Reading). read_on x c) w ∙ sym (read_append s bs c)
+
+-- the front of a chunk is what was read of the input
+pub chunk_given : (a b : Option (List ℕ)) (c : List ℕ) (n : ℕ) {bs : List ℕ} → bs ≡ part c 0 n → Consumes a b (take n c) → Consumes a b bs
+unfolding part
+chunk_given a b c n e w = rw (e, sub-zero n) w
 
 module _ (s : Reading) (c : List ℕ) (at : ℕ) {u : Reading} (inv : read_on s (drop at c) ≡ u) where
   -- what is left to read behind a piece that was taken

@@ -1,3 +1,4 @@
+pub mod Seen
 pub mod Left
 pub mod Turned
 pub mod Told

@@ -1,6 +1,6 @@
 // What the witness prints besides: the message, the answer buffer past it, and the records in use with their store.
-use crate::records::Desk;
 use page::output::Page;
+use record::Record;
 use std::io::{self, Write};
 use text::part::part_of;
 use view::records;
@@ -9,7 +9,8 @@ use view::sum::checksum;
 // Prints the message of so many bytes, the sum of the answer buffer's bytes past it, and what is shown of the records.
 pub fn print_detail<W: Write>(
     to: &mut W,
-    desk: &Desk,
+    rs: &[Record; 16],
+    store: &[u8],
     answer: &[u8],
     length: usize,
 ) -> io::Result<()> {
@@ -20,8 +21,9 @@ pub fn print_detail<W: Write>(
     page.text(b"  answer ");
     page.hex_bytes(part_of(answer, 0, length));
     page.text(b"\n  past ");
-    page.hex(8, u64::from(checksum(part_of(answer, length, answer.len()))));
+    let past = checksum(part_of(answer, length, answer.len()));
+    page.hex(8, u64::from(past));
     page.text(b"\n");
-    records::put_records(&mut page, &desk.records, &desk.store);
+    records::put_records(&mut page, rs, store);
     to.write_all(page.front())
 }

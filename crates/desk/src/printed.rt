@@ -1,5 +1,6 @@
 // What is printed for a line.
-ghost use Rattle.std.specs.Prelude.{◌≡◌, IfOk, OnErr};
+ghost use Rattle.std.specs.Prelude.{◌≡◌};
+ghost use Rattle.desk.specs.Seen.{seen};
 ghost use Rattle.desk.specs.Turned.{table_behind};
 
 use crate::records::Desk;
@@ -17,12 +18,13 @@ fn mark(answer: &mut [u8]) {
 // Runs a line and prints what comes of it, and more where that is asked for. Where that cannot be printed the line is run all the same.
 pub fn run_line<W: Write>(
     to: &mut W,
-    desk: &mut Desk,
+    desk: &mut Desk<'_>,
     line: &[u8],
     nth: u64,
     more: bool,
 ) -> io::Result<()>
-    ensures { desk.new ≡ table_behind desk.old line.now }
+    ensures runs { seen desk.new ≡ table_behind (seen desk.old) line.now }
+    ensures same_store { desk.new.store.ghost_name ≡ desk.old.store.ghost_name }
 {
     let answer: &mut [u8] = &mut [0; 4608];
     mark(answer);
@@ -30,7 +32,8 @@ pub fn run_line<W: Write>(
     let t = turn::line_turn(page, nth, desk, answer, line, more);
     to.write_all(part::part_of(page, 0, t.end))?;
     if more {
-        detail::print_detail(to, desk, answer, t.length)?;
+        let store = &mut *desk.store;
+        detail::print_detail(to, &desk.records, store, answer, t.length)?;
     }
     Ok(())
 }

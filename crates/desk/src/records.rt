@@ -1,33 +1,25 @@
-// The sixteen records and their store.
-ghost use Rattle.std.specs.Prelude.{◌≡◌};
-ghost use Rattle.table.specs.Table.{Table};
+// The sixteen records and the store that is lent for them.
+ghost use Rattle.std.specs.Prelude.{◌≡◌, length};
 ghost use Rattle.listing.specs.Lent.{open_table};
+ghost use Rattle.desk.specs.Seen.{seen};
 
 use record::Record;
-use std::marker::Model;
 
-// A clause sees the table that they are.
+// Sixteen records, and a store of any length; `desk/Seen.seen` is the table that they are.
 #[derive(Drop)]
-pub struct Desk {
+pub struct Desk<'a> {
     pub records: [Record; 16],
-    pub store: [u8; 65536],
+    pub store: &'a mut [u8],
 }
 
-impl Model for Desk {
-    ghost Value = { Table };
-
-    ghost view = { λ d. record { records = d.records; store = d.store } };
-}
-
-// Sixteen records and their store, opened.
+// Sixteen records and a store, opened.
 #[tactic(auto, using(crate::proofs::OpenLaws::opens))]
-pub fn opened() -> Desk
-    ensures { result ≡ open_table 16 }
+pub fn opened(store: &mut [u8]) -> Desk<'_>
+    requires { length store.old ≡ 65536 }
+    ensures opens { seen result ≡ open_table 16 }
+    ensures same_store { result.store.ghost_name ≡ store.entry.ghost_name }
 {
-    let mut desk = Desk {
-        records: [lent::empty(); 16],
-        store: [0; 65536],
-    };
-    let _ = windgusset::open(&mut desk.records, &mut desk.store);
-    desk
+    let mut records = [lent::empty(); 16];
+    let _ = windgusset::open(&mut records, store);
+    Desk { records, store }
 }

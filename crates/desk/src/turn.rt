@@ -1,5 +1,6 @@
 // A line's turn: what is printed for it.
 ghost use Rattle.std.specs.Prelude.{◌≡◌, ◌≤◌, length};
+ghost use Rattle.desk.specs.Seen.{seen};
 ghost use Rattle.desk.specs.Turned.{Turned};
 
 use crate::records::Desk;
@@ -17,17 +18,19 @@ pub struct Turn {
 pub fn line_turn(
     page: &mut [u8],
     nth: u64,
-    desk: &mut Desk,
+    desk: &mut Desk<'_>,
     answer: &mut [u8],
     line: &[u8],
     more: bool,
 ) -> Turn
     requires { (103 ≤ length page.old) × (length answer.old ≡ 4608) }
-    ensures { Turned more desk.old answer.old line.now page.old nth
-        result desk.new answer.new page.new }
+    ensures turns { Turned more (seen desk.old) answer.old line.now page.old nth
+        result (seen desk.new) answer.new page.new }
+    ensures same_store { desk.new.store.ghost_name ≡ desk.old.store.ghost_name }
 {
     let s = step::line_step(desk, answer, line);
-    let told = readout::line_told(desk, line, s.shown, more);
+    let store = &mut *desk.store;
+    let told = readout::line_told(&desk.records, store, line, s.shown, more);
     let end = shown::put_line(page, nth, told);
     Turn {
         length: s.length,
