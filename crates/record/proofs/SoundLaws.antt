@@ -1,11 +1,11 @@
 -- What soundness says of a record, place by place: the test holds exactly where these facts do.
-use mathlib.Core.Path.{◌≡◌, sym}
+use mathlib.Core.Path.{◌≡◌, refl, sym, ◌∙◌}
 use mathlib.Core.Bool.{Bool, true, false, ◌&&◌, ◌||◌, not, false≢true}
 use mathlib.Core.List.{List}
-use Prim.Native.Nat.{ℕ, ◌+◌, ◌≤◌}
+use Prim.Native.Nat.{ℕ, ◌+◌, ◌-◌, ◌≤◌}
 use native.Mathlib.Omega.{arith}
 use lib.Dec.{leb}
-use borrow.Author.Tests.{eqb-true, leb-true, le-leb, lt-leb}
+use borrow.Author.Tests.{eqb-true, leb-true, leb-false, le-leb, lt-leb}
 use Rattle.laws.specs.Lists.{every, pairwise}
 use Rattle.laws.proofs.Tests.{and_left, and_right}
 use Rattle.text.specs.Class.{from_to}
@@ -120,6 +120,14 @@ unused_sound r p = rw p
 pub unmarked_unsound : (r : Record) → (r.used ≡ 0 → ⊥) → (r.used ≡ 1 → ⊥) → is_sound r ≡ false
 unfolding is_sound
 unmarked_unsound r p q = rw (lt-leb r.used 1 (omega (arith, p, q)))
+
+-- an end is in time where what is left of it past the clock is; an end up to the clock has nothing left
+pub left_in_time : (end clock most : ℕ) {left given : ℕ} → left ≡ end - clock → given ≡ most → leb left given ≡ leb end (clock + most)
+left_in_time end clock most {left} {given} e f = go (leb end (clock + most)) refl
+  where
+    go : (b : Bool) → leb end (clock + most) ≡ b → leb left given ≡ leb end (clock + most)
+    go true h = le-leb left given (omega (arith, leb-true end (clock + most) h)) ∙ sym h
+    go false h = lt-leb left given (omega (arith, leb-false end (clock + most) h)) ∙ sym h
 
 -- two slots differ in tag and in body number
 abbrev pub differs : Slot → Slot → Bool

@@ -2,6 +2,7 @@ pub mod Untouched
 pub mod OneRecord
 pub mod Sound
 pub mod GrantedLaws
+pub mod OpenLaws
 pub mod PlaceLaws
 pub mod SeekLaws
 pub mod AddLaws
