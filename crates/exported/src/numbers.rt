@@ -51,10 +51,7 @@ pub fn handled_numbers(h: Handled) -> HandledNumbers
         result: 0,
     };
     match h.outcome {
-        Outcome::Silent(result) => HandledNumbers {
-            result,
-            ..nothing
-        },
+        Outcome::Silent(result) => HandledNumbers { result, ..nothing },
         Outcome::Refused(status, field) => HandledNumbers {
             seconds: field_seconds(field),
             status,
