@@ -1,4 +1,4 @@
--- What the program leaves where it cannot print: what is read behind the lines of a chunk that were run.
+-- What the program leaves where it cannot print: what is read behind the lines of a chunk that were run, and its store.
 use mathlib.Core.Path.{◌≡◌, sym, ◌∙◌, ap}
 use mathlib.Core.Bool.{true}
 use mathlib.Core.List.{List}
@@ -33,17 +33,28 @@ module _ (s : Reading) (c : List ℕ) (at : ℕ) {u : Reading} (inv : u ≡ read
       ∙ ap (λ (bs : List ℕ). read_on s bs) (sym (take-add at (q.next - at) c))
       ∙ ap (λ (m : ℕ). read_on s (take m c)) n
 
-  -- what is read behind a line that it ends
+  -- the store behind a line that it ends
   pub chunk_stopped : {q : Piece} {bs : List ℕ} → q ≡ piece_at c at → bs ≡ part c at q.end → at ≤ q.next
+      → {store : List ℕ}
+      → (ltb q.end q.next ≡ true) × (store ≡ (piece_on u bs (ltb q.end q.next)).table.store)
+      → RunIn s c store
+  chunk_stopped {q} is e h w =
+      let ended = piece_ended s c at is w.0 in
+      record {
+        at = q.end;
+        ends = ended.0;
+        runs =
+            w.1 ∙ ap (λ (r : Reading). r.table.store) (chunk_front is e h)
+            ∙ ap (λ (n : ℕ). (read_on s (take n c)).table.store) ended.1;
+      }
+
+  -- all that is read behind it
+  pub chunk_stops : {q : Piece} {bs : List ℕ} → q ≡ piece_at c at → bs ≡ part c at q.end → at ≤ q.next
       → {v : Reading} → ltb q.end q.next ≡ true → v ≡ piece_on u bs (ltb q.end q.next) → RunUpTo s c v
-  chunk_stopped {q} is e h t w =
+  chunk_stops {q} is e h t w =
       let ended = piece_ended s c at is t in
       record {
         at = q.end;
         ends = ended.0;
         reads = w ∙ chunk_front is e h ∙ ap (λ (n : ℕ). read_on s (take n c)) ended.1;
       }
-
--- the store behind it
-pub store_stopped : {s : Reading} {c : List ℕ} {v : Reading} → RunUpTo s c v → RunIn s c v.table.store
-store_stopped w = record { at = w.at; ends = w.ends; runs = ap (λ (r : Reading). r.table.store) w.reads }

@@ -33,7 +33,6 @@ impl Reader {
     ghost use Rattle.desk.specs.declared.records.Desk.{Desk};
 
     // Before the first line of a desk that was opened.
-    #[tactic(auto, using(crate::proofs::ReadToLaws::read_begun))]
     pub fn opened() -> Reader
         ensures { (d : Desk) → seen d ≡ open_table 16 → reading_of result d ≡ begun }
     {

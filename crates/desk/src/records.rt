@@ -13,7 +13,6 @@ pub struct Desk<'a> {
 }
 
 // Sixteen records and a store, opened.
-#[tactic(auto, using(crate::proofs::OpenLaws::opens))]
 pub fn opened(store: &mut [u8]) -> Desk<'_>
     requires { length store.old ≡ 65536 }
     ensures opens { seen result ≡ open_table 16 }
