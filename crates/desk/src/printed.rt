@@ -32,6 +32,7 @@ pub fn run_line<W: Write>(
     let t = turn::line_turn(page, nth, desk, answer, line, more);
     to.write_all(part::part_of(page, 0, t.end))?;
     if more {
+        // As `&mut`, though it is only read: the borrow checker does not cover a shared loan of what lies behind a reference.
         let store = &mut *desk.store;
         detail::print_detail(to, &desk.records, store, answer, t.length)?;
     }

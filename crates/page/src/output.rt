@@ -73,7 +73,7 @@ impl Page<'_> {
     }
 }
 
-// What is written to a page is put there, and nothing fails.
+// What is written to a page is put there where it has room, and nothing fails.
 impl Write for Page<'_> {
     fn write(&mut self, buf: &[u8]) -> io::Result<usize> {
         self.text(buf);
@@ -94,6 +94,7 @@ impl<'a> fmt::Display for Hex<'a> {
         if self.0.is_empty() {
             return f.write_str("-");
         }
+        // So many bytes at a time, since each piece that is written costs more than its digits do. Digits are text, so the error never comes.
         for bs in self.0.chunks(64) {
             let mut digits = [0; 128];
             let mut page = Page {
