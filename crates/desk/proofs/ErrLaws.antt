@@ -1,5 +1,5 @@
 -- What the program leaves where it cannot print: what is read behind the lines of a chunk that were run, and its store.
-use mathlib.Core.Path.{◌≡◌, sym, ◌∙◌, ap}
+use mathlib.Core.Path.{◌≡◌, refl, sym, ◌∙◌, ap}
 use mathlib.Core.Bool.{true}
 use mathlib.Core.List.{List}
 use Prim.Native.Nat.{ℕ, ◌+◌, ◌-◌, ◌≤◌}
@@ -33,22 +33,7 @@ module _ (s : Reading) (c : List ℕ) (at : ℕ) {u : Reading} (inv : u ≡ read
       ∙ ap (λ (bs : List ℕ). read_on s bs) (sym (take-add at (q.next - at) c))
       ∙ ap (λ (m : ℕ). read_on s (take m c)) n
 
-  -- the store behind a line that it ends
-  pub chunk_stopped : {q : Piece} {bs : List ℕ} → q ≡ piece_at c at → bs ≡ part c at q.end → at ≤ q.next
-      → {store : List ℕ}
-      → (ltb q.end q.next ≡ true) × (store ≡ (piece_on u bs (ltb q.end q.next)).table.store)
-      → RunIn s c store
-  chunk_stopped {q} is e h w =
-      let ended = piece_ended s c at is w.0 in
-      record {
-        at = q.end;
-        ends = ended.0;
-        runs =
-            w.1 ∙ ap (λ (r : Reading). r.table.store) (chunk_front is e h)
-            ∙ ap (λ (n : ℕ). (read_on s (take n c)).table.store) ended.1;
-      }
-
-  -- all that is read behind it
+  -- all that is read behind a line that it ends
   pub chunk_stops : {q : Piece} {bs : List ℕ} → q ≡ piece_at c at → bs ≡ part c at q.end → at ≤ q.next
       → {v : Reading} → ltb q.end q.next ≡ true → v ≡ piece_on u bs (ltb q.end q.next) → RunUpTo s c v
   chunk_stops {q} is e h t w =
@@ -58,3 +43,12 @@ module _ (s : Reading) (c : List ℕ) (at : ℕ) {u : Reading} (inv : u ≡ read
         ends = ended.0;
         reads = w ∙ chunk_front is e h ∙ ap (λ (n : ℕ). read_on s (take n c)) ended.1;
       }
+
+  -- and so its store
+  pub chunk_stopped : {q : Piece} {bs : List ℕ} → q ≡ piece_at c at → bs ≡ part c at q.end → at ≤ q.next
+      → {store : List ℕ}
+      → (ltb q.end q.next ≡ true) × (store ≡ (piece_on u bs (ltb q.end q.next)).table.store)
+      → RunIn s c store
+  chunk_stopped is e h w =
+      let up = chunk_stops is e h w.0 refl in
+      record { at = up.at; ends = up.ends; runs = w.1 ∙ ap (λ (r : Reading). r.table.store) up.reads }

@@ -14,8 +14,7 @@ pub struct Desk<'a> {
 
 // Sixteen records and a store, opened.
 pub fn opened(store: &mut [u8]) -> Desk<'_>
-    requires { length store.old ≡ 65536 }
-    ensures opens { seen result ≡ open_table 16 }
+    ensures opens { length store.old ≡ 65536 → seen result ≡ open_table 16 }
     ensures same_store { result.store.ghost_name ≡ store.entry.ghost_name }
 {
     let mut records = [lent::empty(); 16];

@@ -4,4 +4,4 @@ use Rattle.desk.proofs.OpenLaws.{opens}
 use Rattle.desk.proofs.records.opened.Goals as goal
 
 pub returns-clause-opens : goal.returns-clause-opens
-returns-clause-opens c = opens _ c.args.store.now _ _ _ (search rules) c.requires c.open.ensures
+returns-clause-opens c = λ long. opens _ c.args.store.now _ _ _ (search rules) long c.open.ensures

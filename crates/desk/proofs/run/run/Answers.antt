@@ -1,6 +1,7 @@
 -- There are bytes of which what is held is what reading them gives: none at first, and with each turn the chunk that was read behind those before
 -- it. Where it is known what the input has, they are what was read of it.
 use mathlib.Core.List.{[]}
+use borrow.Author.Rules.{rules}
 use Rattle.std.proofs.KnownBytes.{Consumes-nil, Consumes-trans, Consumes-kept}
 use Rattle.desk.specs.Reading.{read_on}
 use Rattle.desk.specs.ReadTo.{reading_of}
@@ -10,7 +11,7 @@ use Rattle.desk.proofs.run.run.Goals.{in-Ok+in_ok-take_all-in-Ok, in-Err}
 
 pub loop-init : goal.loop-init
 unfolding read_on
-loop-init g c = ([], c.opened-reader.ensures c.opened-desk.result c.opened-desk.ensures.opens, Consumes-nil _)
+loop-init g c = ([], c.opened-reader.ensures c.opened-desk.result (c.opened-desk.ensures.opens (search rules)), Consumes-nil _)
 
 pub loop-preserved : goal.loop-preserved
 loop-preserved g c =
