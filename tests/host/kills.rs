@@ -43,10 +43,10 @@ pub fn kills(place: &Place, checks: &mut Checks) {
     println!("kills near a write: {} before it, {} between it and the tag, {} after the tag", before, between, after);
 }
 
-/// A host that does not count ahead of use gives a tag again, and is caught in fewer rounds than the test above has, so that it can fail. By
-/// chance six rounds passed it one time in six.
+/// A host that does not count ahead of use gives a tag again, and is caught in as many rounds of lives as the test above has: that test can
+/// fail. By chance six rounds passed it one time in six.
 pub fn careless(place: &Place, checks: &mut Checks) {
-    let caught = match Trial::new(place, 12).rounds(vec![Moment::Lives; 60]) {
+    let caught = match Trial::new(place, 12).rounds(vec![Moment::Lives; 44]) {
         Err(why) if why.contains("came again") || why.contains("not written") => Ok(()),
         other => Err(format!("{:?}", other)),
     };
