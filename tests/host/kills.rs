@@ -44,7 +44,7 @@ pub fn kills(place: &Place, checks: &mut Checks) {
 }
 
 /// A host that does not count ahead of use gives a tag again, and is caught in as many rounds of lives as the test above has: that test can
-/// fail. By chance six rounds passed it one time in six.
+/// fail. Whether a round catches it is chance; six rounds in a row missed it one time in six.
 pub fn careless(place: &Place, checks: &mut Checks) {
     let caught = match Trial::new(place, 12).rounds(vec![Moment::Lives; 44]) {
         Err(why) if why.contains("came again") || why.contains("not written") => Ok(()),
